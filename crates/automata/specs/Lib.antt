@@ -1,0 +1,3 @@
+pub mod Automata
+pub mod Meaning
+pub mod Storing
