@@ -1,0 +1,15 @@
+pub mod Every
+pub mod Stacks
+pub mod Sources
+pub mod TagLines
+pub mod Lines
+pub mod Packed
+pub mod Refusals
+pub mod Tables
+pub mod Storing
+pub mod Phases
+pub mod Courses
+pub mod Book
+pub mod Promises
+pub mod Picks
+pub mod History
