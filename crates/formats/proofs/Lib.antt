@@ -1,0 +1,6 @@
+mod Splitting
+mod NameFields
+mod Heading
+mod Leads
+mod Storing
+mod Tabling
