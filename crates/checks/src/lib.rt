@@ -1,0 +1,7 @@
+//! Tests through the library: examples, and each refusal.
+#[cfg(test)]
+mod runs;
+#[cfg(test)]
+mod sources;
+#[cfg(test)]
+mod texts;
