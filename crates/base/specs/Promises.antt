@@ -102,11 +102,3 @@ pub record EndPromise {S : Type 0} (before : Run S) (totals : Totals) (given-bac
   pub picks : totals .picks ≡ before .picks
   pub whole : totals .whole ≡ is-after (before .phase)
   pub selector : given-back ≡ before .selector
-
--- a run begins, drains the source and ends
-pub record ReadPromise {S : Type 0} (m : Meaning S) (v : Moves S) (chosen : S) (most : ℕ) (source : Source) (list : List ℕ) (source-after : Source) (list-after : List ℕ) (drained : Drained) (totals : Totals) (given-back : S) : Type 0 where
-  pub first : Run S
-  pub last : Run S
-  pub begins : BeginPromise v chosen most first
-  pub drains : DrainPromise m v first source list last source-after list-after drained
-  pub ends : EndPromise last totals given-back

@@ -1,7 +1,6 @@
 //! What a controller carries: tables, tag sources, runs and the stack selector. No heap.
 pub mod lines;
 pub mod packed;
-pub mod reading;
 pub mod run;
 pub mod selector;
 pub mod source;

@@ -1,8 +1,6 @@
 //! Runs of the stack selector.
 use base::packed::PackedSource;
 use base::packed::PackedTags;
-use base::reading::Reading;
-use base::reading::read;
 use base::run::Cause;
 use base::run::CausePartialEq;
 use base::run::Drained;
@@ -97,16 +95,14 @@ fn limits_and_labels_are_refused() -> Result<(), Fail> {
     check(first_refused(3, 1)? == 0)
 }
 
-// Drains packed bytes with three stack bytes and a limit of 2, into a list of one place.
+// Drains packed bytes with three stack bytes and a limit of 2.
 fn drained(tags: &[u8], list: &mut [u32]) -> Result<(Drained, Totals), Refusal> {
     let table = below()?;
     let mut bytes = [0; 3];
     let mut source = PackedSource::new(tags)?;
-    let Reading {
-        drained,
-        totals,
-        selector,
-    } = read(StackSelector::new(&table, &mut bytes), 2, &mut source, list);
+    let mut run = Run::begin(StackSelector::new(&table, &mut bytes), 2);
+    let drained = run.drain(&mut source, list);
+    let (totals, selector) = run.end();
     drop(selector);
     Ok((drained, totals))
 }

@@ -46,7 +46,7 @@ pub record Accepted (text : List ℕ) (t : TableText) : Type 0 where
   pub whole : Headed text (names-of (t .labels)) (written (automaton (t .table)))
   pub labels : automaton (t .table) .labels ≡ length (names-of (t .labels))
 
--- no states line comes after the label line, or after the states line come not the rows of any automaton
+-- why it is not: its label line, no states line after that, or no rows of an automaton after that
 pub data Refused (text : List ℕ) : Refusal → Type 0 where
   unheaded : (why : Refusal) → Unheaded text why → Refused text why
   states : (names : List (List ℕ)) (rest : List ℕ) → Headed text names rest → ((count start : ℕ) (tail : List ℕ) → Bounded count start → rest ≡ line (states-line count start) tail → ⊥) → Refused text StatesLine

@@ -8,9 +8,8 @@ use base::lines::LineSource;
 use base::lines::next::LineTags;
 use base::packed::PackedSource;
 use base::packed::PackedTags;
-use base::reading::Reading;
-use base::reading::read;
 use base::run::Drained;
+use base::run::Run;
 use base::run::Totals;
 use base::selector::Selector;
 use base::source::TagSource;
@@ -111,18 +110,16 @@ fn pick_with<'a, S: Selector + Drop>(
     Ok(clean && totals.whole)
 }
 
-// A whole reading, without the selector.
+// A whole run over the source.
 fn read_through<S: Selector + Drop, T: TagSource>(
     selector: S,
     limit: u32,
     source: &mut T,
     list: &mut [u32],
 ) -> (Drained, Totals) {
-    let Reading {
-        drained,
-        totals,
-        selector,
-    } = read(selector, limit, source, list);
+    let mut run = Run::begin(selector, limit);
+    let drained = run.drain(source, list);
+    let (totals, selector) = run.end();
     drop(selector);
     (drained, totals)
 }
