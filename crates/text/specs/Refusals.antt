@@ -1,7 +1,7 @@
 -- The number of each refusal.
 use Prim.Native.Nat.{ℕ}
 use Rattle.text.specs.declared.refusal.Refusal.{Refusal}
-use Rattle.text.specs.declared.refusal.Refusal.the-variants.{TooLong, NoNewline, NotLabels, BadName, NameCount, NameTwice, StatesLine, Row, Limit, Label, AfterRoot, TooDeep, TooMany, NothingOpen, TagLine, UnknownName}
+use Rattle.text.specs.declared.refusal.Refusal.the-variants.{TooLong, NoNewline, NotLabels, BadName, NameCount, NameTwice, PathLength, NotSteps, TooManySteps, TooManySets, StatesLine, Row, Limit, Label, AfterRoot, TooDeep, TooMany, NothingOpen, TagLine, UnknownName}
 
 abbrev pub number : Refusal → ℕ
 number TooLong = 1
@@ -10,6 +10,10 @@ number NotLabels = 3
 number BadName = 4
 number NameCount = 5
 number NameTwice = 6
+number PathLength = 7
+number NotSteps = 8
+number TooManySteps = 9
+number TooManySets = 10
 number StatesLine = 11
 number Row = 12
 number Limit = 15

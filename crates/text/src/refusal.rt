@@ -16,6 +16,14 @@ pub enum Refusal {
     NameCount = 5,
     /// A name stands twice.
     NameTwice = 6,
+    /// A path is empty or longer than 200 bytes.
+    PathLength = 7,
+    /// A path is not a list of steps.
+    NotSteps = 8,
+    /// A path has more than 15 steps.
+    TooManySteps = 9,
+    /// A path reaches more than 32 position sets.
+    TooManySets = 10,
     /// The `states` line is missing or malformed, its count is not 1 to 32, or its start is not below the count.
     StatesLine = 11,
     /// A row is malformed, out of order, missing, left over or has a target not below the count; or a line follows a label line that is read by itself.
