@@ -1,5 +1,7 @@
 //! Tests through the library: examples, and each refusal.
 #[cfg(test)]
+mod routes;
+#[cfg(test)]
 mod runs;
 #[cfg(test)]
 mod sources;

@@ -1,6 +1,7 @@
 //! pintleapple: picks elements out of a document while it is read, tag by tag.
 mod options;
 mod pick;
+mod query;
 mod report;
 mod stop;
 
@@ -12,17 +13,21 @@ use crate::stop::StopFromIo;
 use std::env;
 use std::error::AnyError;
 
-const USAGE: &str = "usage: pintleapple pick --table TABLE [--packed] [--limit N] DOCUMENT
+const USAGE: &str =
+    "usage: pintleapple pick --labels LABELS --path PATH [--packed] [--limit N] DOCUMENT
+       pintleapple pick --table TABLE [--packed] [--limit N] DOCUMENT
 
-Reads a table text and a document, picks the elements whose path the table
-accepts, and prints what it did.
+Reads a document, picks the elements whose path the query accepts, and prints
+what it did. The query is a path over labels, or a table.
 
-  --table TABLE   the table text: a label line, a `states` line and rows
-  --packed        the document is packed bytes, not tag lines
-  --limit N       refuse openings at depth N; else the largest that fits
+  --labels LABELS  a text of one label line
+  --path PATH      steps as in //hold//air: `/` or `//`, and a name or `*`
+  --table TABLE    the table text: a label line, a `states` line and rows
+  --packed         the document is packed bytes, not tag lines
+  --limit N        refuse openings at depth N; else the largest that fits
 
 examples:
-  pintleapple pick --table hold-air.table roast.tags
+  pintleapple pick --labels roast.labels --path //hold//air roast.tags
   pintleapple pick --table hold-air.table --limit 12 roast.tags
   pintleapple pick --table hold-air.table --packed roast.bin
 ";

@@ -1,9 +1,18 @@
 //! What the arguments ask for.
 
+/// Where a query comes from.
+#[derive(Clone, Copy)]
+pub enum Query<'a> {
+    /// A table text.
+    Table(&'a str),
+    /// A text of one label line, and a path.
+    Path { labels: &'a str, path: &'a str },
+}
+
 /// A document to pick from.
 #[derive(Clone, Copy)]
 pub struct PickOptions<'a> {
-    pub table: &'a str,
+    pub query: Query<'a>,
     pub document: &'a str,
     pub packed: bool,
     pub limit: Option<u32>,
@@ -25,45 +34,82 @@ pub fn parse(words: &[String]) -> Option<Command<'_>> {
     }
 }
 
-// What a word before asks of the next one.
+// Whose value the next word is.
 #[derive(Clone, Copy)]
-enum Expected {
-    Any,
+enum Awaited {
+    Nothing,
     Table,
+    Labels,
+    Path,
     Limit,
 }
 
 fn pick_options(words: &[String]) -> Option<PickOptions<'_>> {
     let mut table = None;
+    let mut labels = None;
+    let mut path = None;
+    let mut limit = None;
     let mut document = None;
     let mut packed = false;
-    let mut limit = None;
-    let mut expected = Expected::Any;
+    let mut awaited = Awaited::Nothing;
     for word in words {
         let word = word.as_str();
-        match (expected, word) {
-            (Expected::Table, _) => table = Some(word),
-            (Expected::Limit, _) => limit = Some(word.parse::<u32>().ok()?),
-            (Expected::Any, "--packed") => packed = true,
-            (Expected::Any, "--table") => {}
-            (Expected::Any, "--limit") => {}
-            (Expected::Any, _) => {
-                if word.starts_with('-') || document.is_some() {
-                    return None;
+        match awaited {
+            Awaited::Table => table = Some(word),
+            Awaited::Labels => labels = Some(word),
+            Awaited::Path => path = Some(word),
+            Awaited::Limit => limit = Some(word.parse::<u32>().ok()?),
+            Awaited::Nothing => {
+                if word == "--packed" {
+                    packed = true;
+                } else if !awaits(word) {
+                    if word.starts_with('-') || document.is_some() {
+                        return None;
+                    }
+                    document = Some(word);
                 }
-                document = Some(word);
             }
         }
-        expected = match (expected, word) {
-            (Expected::Any, "--table") => Expected::Table,
-            (Expected::Any, "--limit") => Expected::Limit,
-            _ => Expected::Any,
+        awaited = match awaited {
+            Awaited::Nothing => awaited_after(word),
+            _ => Awaited::Nothing,
         };
     }
+    if !matches!(awaited, Awaited::Nothing) {
+        return None;
+    }
     Some(PickOptions {
-        table: table?,
+        query: one_query(table, labels, path)?,
         document: document?,
         packed,
         limit,
     })
+}
+
+// Whose value comes after the word.
+fn awaited_after(word: &str) -> Awaited {
+    match word {
+        "--table" => Awaited::Table,
+        "--labels" => Awaited::Labels,
+        "--path" => Awaited::Path,
+        "--limit" => Awaited::Limit,
+        _ => Awaited::Nothing,
+    }
+}
+
+fn awaits(word: &str) -> bool {
+    !matches!(awaited_after(word), Awaited::Nothing)
+}
+
+// A table, or labels with a path, and not both.
+fn one_query<'a>(
+    table: Option<&'a str>,
+    labels: Option<&'a str>,
+    path: Option<&'a str>,
+) -> Option<Query<'a>> {
+    match (table, labels, path) {
+        (Some(table), None, None) => Some(Query::Table(table)),
+        (None, Some(labels), Some(path)) => Some(Query::Path { labels, path }),
+        _ => None,
+    }
 }

@@ -1,5 +1,6 @@
 //! The command `pick`.
 use crate::options::PickOptions;
+use crate::query;
 use crate::report;
 use crate::stop::Stop;
 use crate::stop::StopFromAlloc;
@@ -17,7 +18,6 @@ use base::stack_selector::StackSelector;
 use base::stack_selector::moves::StackSelecting;
 use base::table::Table;
 use formats::table_text::TableText;
-use formats::table_text::read_table;
 use std::fs;
 use text::labels::Labels;
 
@@ -26,17 +26,16 @@ const STACK_BYTES: usize = 65_535;
 
 /// Picks from a document, and prints what came of it; whether the document was whole and nothing was refused.
 pub fn pick(rt: &LibcRuntime, options: PickOptions<'_>) -> Result<bool, Stop> {
-    let text = match fs::read(rt, options.table) {
-        Ok(text) => text,
-        Err(error) => return report::unreadable(rt, options.table, error),
-    };
-    let TableText { labels, table } = match read_table(text.as_slice()) {
-        Ok(both) => both,
-        Err(refusal) => return report::text_refused(rt, options.table, refusal),
+    let TableText { labels, table } = match query::load(rt, options.query)? {
+        Some(both) => both,
+        None => return Ok(false),
     };
     let document = match fs::read(rt, options.document) {
         Ok(document) => document,
-        Err(error) => return report::unreadable(rt, options.document, error),
+        Err(error) => {
+            report::unreadable(rt, options.document, error)?;
+            return Ok(false);
+        }
     };
     let mut stack = vec![in rt.alloc(); 0u8; STACK_BYTES]?;
     match pick_with_stack(
@@ -47,7 +46,10 @@ pub fn pick(rt: &LibcRuntime, options: PickOptions<'_>) -> Result<bool, Stop> {
         document.as_slice(),
         options,
     ) {
-        Err(Stop::Text(refusal)) => report::text_refused(rt, options.document, refusal),
+        Err(Stop::Text(refusal)) => {
+            report::text_refused(rt, options.document, refusal)?;
+            Ok(false)
+        }
         done => done,
     }
 }

@@ -16,18 +16,26 @@ use text::labels::Labels;
 use text::refusal::Refusal;
 
 /// Tells that a file cannot be read.
-pub fn unreadable(rt: &LibcRuntime, path: &str, error: io::Error) -> Result<bool, Stop> {
+pub fn unreadable(rt: &LibcRuntime, path: &str, error: io::Error) -> Result<(), Stop> {
     eprintln!(rt, "cannot read {path}: {error}")?;
-    Ok(false)
+    Ok(())
 }
 
-/// Tells why a text is refused as a whole.
-pub fn text_refused(rt: &LibcRuntime, path: &str, refusal: Refusal) -> Result<bool, Stop> {
+/// Tells why a file is refused as a whole.
+pub fn text_refused(rt: &LibcRuntime, path: &str, refusal: Refusal) -> Result<(), Stop> {
     let number = refusal.number();
     let line = line_of(refusal);
     let rule = rule(refusal);
     eprintln!(rt, "refused {number}: {path}{line}: {rule}")?;
-    Ok(false)
+    Ok(())
+}
+
+/// Tells why a path is refused.
+pub fn path_refused(rt: &LibcRuntime, path: &str, refusal: Refusal) -> Result<(), Stop> {
+    let number = refusal.number();
+    let rule = rule(refusal);
+    eprintln!(rt, "refused {number}: path `{path}`: {rule}")?;
+    Ok(())
 }
 
 /// Prints why a drain stopped, if not at a clean end; whether it was one.
@@ -124,6 +132,11 @@ fn rule(refusal: Refusal) -> &'static str {
         Refusal::BadName => "a name is not 1 to 16 bytes out of a to z, 0 to 9 and the hyphen",
         Refusal::NameCount => "there is no name, or there are more than 16",
         Refusal::NameTwice => "a name stands twice",
+        Refusal::PathLength => "it is empty or longer than 200 bytes",
+        Refusal::NotSteps =>
+            "it is not a list of steps, each `/` or `//` and then a name of the label line or `*`",
+        Refusal::TooManySteps => "it has more than 15 steps",
+        Refusal::TooManySets => "it reaches more than 32 position sets",
         Refusal::StatesLine => "this is not `states`, a count of 1 to 32 and a start below it",
         Refusal::Row =>
             "a row is malformed, out of order, missing or left over, or has a target that is no state",
