@@ -1,1 +1,10 @@
 pub mod Storing
+pub mod Pigeonhole
+pub mod Words
+pub mod Loops
+pub mod Tags
+pub mod Bends
+pub mod Denied
+pub mod Lowest
+pub mod Stands
+pub mod Given

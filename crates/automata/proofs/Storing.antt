@@ -11,11 +11,8 @@ use Rattle.std.proofs.shelf.Elements.{all-push}
 use Rattle.std.proofs.shelf.Tests.{cases-lt}
 use Rattle.automata.specs.Automata.{Automaton, Word, run, accepts}
 use Rattle.automata.specs.Meaning.{Meaning, Moves, Rules, Same}
+use Rattle.automata.proofs.Words.{run-append}
 use Rattle.automata.specs.Storing.{Storing, before, labels, carry, Stands, Renewed, Opened, Pushed, Closed, Popped, meaning, moves}
-
-pub run-++ : (A : Automaton) (p : ℕ) (u w : List ℕ) → run A p (u ++ w) ≡ run A (run A p u) w
-run-++ A p [] w = refl
-run-++ A p (a ∷ u) w = run-++ A (A .step p a) u w
 
 before-push : (A : Automaton) (p : ℕ) (u : List ℕ) (a : ℕ) → before A p (u ++ (a ∷ [])) ≡ before A p u ++ (run A p u ∷ [])
 before-push A p [] a = refl
@@ -77,7 +74,7 @@ module _ {S : Type 0} (v : Storing S) where
       A = v .automaton s
 
       led : v .state t ≡ run A (A .start) (u ++ (a ∷ []))
-      led = p .state ∙ ap (λ q. A .step q a) (h .state) ∙ sym (run-++ A (A .start) u (a ∷ []))
+      led = p .state ∙ ap (λ q. A .step q a) (h .state) ∙ sym (run-append A (A .start) u (a ∷ []))
 
       stored : take (v .used t) (v .bytes t) ≡ before A (A .start) (u ++ (a ∷ []))
       stored =

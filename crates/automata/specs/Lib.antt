@@ -1,3 +1,10 @@
 pub mod Automata
 pub mod Meaning
 pub mod Storing
+pub mod States
+pub mod Numbering
+pub mod Grades
+pub mod Streams
+pub mod Machines
+pub mod Backward
+pub mod Theorems

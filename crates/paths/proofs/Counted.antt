@@ -1,4 +1,4 @@
--- An automaton that is named by position sets has as many states as sets are reached.
+-- An automaton that is named by position sets has a state for each set that is reached.
 use mathlib.Core.Path.{_≡_, sym, ap, subst, _∙_}
 use mathlib.Core.Logic.{⊎-elim}
 use mathlib.Core.List.{List, [], _∷_, _++_}
@@ -7,16 +7,16 @@ use native.Mathlib.Decide.{decLt}
 use native.Mathlib.Omega.{arith}
 use Rattle.std.proofs.shelf.Elements.{all-push}
 use Rattle.std.proofs.shelf.Tests.{cases-order}
-use Rattle.automata.specs.Automata.{Automaton, Word, WellFormed, run}
-use Rattle.automata.proofs.Storing.{run-++}
+use Rattle.automata.specs.Automata.{Automaton, WellFormed}
+use Rattle.automata.proofs.Words.{run-append}
 use Rattle.paths.specs.declared.path.Step.{Step}
-use Rattle.paths.specs.Numbering.{Reachable}
+use Rattle.automata.specs.States.{Reaches}
 use Rattle.paths.specs.Positions.{Moved, Reached, at-start, by-label, MoreThan, Named}
 use Rattle.paths.proofs.Moves.{moved-same}
 use Rattle.paths.proofs.Pigeonhole.{pigeonhole}
 
 -- where each set that is reached has a number below k, no more than k are
-pub too-few : (steps : List Step) (n k : ℕ) (name : ℕ → ℕ) → ((x : ℕ) → Reached steps n x → (p : ℕ) × (p < k) × (name p ≡ x)) → MoreThan k steps n → ⊥
+too-few : (steps : List Step) (n k : ℕ) (name : ℕ → ℕ) → ((x : ℕ) → Reached steps n x → (p : ℕ) × (p < k) × (name p ≡ x)) → MoreThan k steps n → ⊥
 too-few steps n k name find more =
     let r = pigeonhole k (λ i. number i (decLt i (k + 1))) (λ i h. number-below i (omega arith) (decLt i (k + 1))) in
     more .distinct (r .early) (r .late) (r .order) (omega (arith, r .within))
@@ -46,11 +46,11 @@ module _ (steps : List Step) (A : Automaton) (f : WellFormed A) (named : Named s
   record State (x : ℕ) : Type 0 where
     state : ℕ
     within : state < A .states
-    reachable : Reachable A state
+    reachable : Reaches A (A .start) state
     set : named .set-of state ≡ x
 
   state-of : (x : ℕ) → Reached steps (A .labels) x → State x
-  state-of x at-start = record { state = A .start; within = f .start; reachable = record { by = []; word = tt; reaches = λ _. A .start }; set = named .start }
+  state-of x at-start = record { state = A .start; within = f .start; reachable = record { by = []; word = tt; leads = λ _. A .start }; set = named .start }
   state-of x (by-label {a} {m} r h moved) =
       let o = state-of m r in
       let w = o .reachable in
@@ -60,28 +60,13 @@ module _ (steps : List Step) (A : Automaton) (f : WellFormed A) (named : Named s
         reachable = record {
           by = w .by ++ a ∷ [];
           word = all-push (λ b. b < A .labels) (w .by) a (w .word) h;
-          reaches = run-++ A (A .start) (w .by) (a ∷ []) ∙ ap (λ p. A .step p a) (w .reaches);
+          leads = run-append A (A .start) (w .by) (a ∷ []) ∙ ap (λ p. A .step p a) (w .leads);
         };
         set = moved-same steps a m _ _ (subst (λ s. Moved steps a s (named .set-of (A .step (o .state) a))) (o .set) (named .step (o .state) a (o .within) h)) moved;
       }
 
-  pub set-reachable : (p : ℕ) → p < A .states → Reached steps (A .labels) (named .set-of p) → Reachable A p
-  set-reachable p h r = let o = state-of (named .set-of p) r in subst (Reachable A) (one-name (o .state) p (o .within) h (o .set)) (o .reachable)
-
-  run-reached : (w : List ℕ) → Word (A .labels) w → (p : ℕ) → p < A .states → Reached steps (A .labels) (named .set-of p) → Reached steps (A .labels) (named .set-of (run A p w))
-  run-reached [] word p h r = r
-  run-reached (a ∷ w) (l, word) p h r = run-reached w word (A .step p a) (f .step p a h l) (by-label r l (named .step p a h l))
-
-  reachable-set : (p : ℕ) → Reachable A p → Reached steps (A .labels) (named .set-of p)
-  reachable-set p r =
-      subst (λ q. Reached steps (A .labels) (named .set-of q)) (r .reaches) (run-reached (r .by) (r .word) (A .start) (f .start) (subst (Reached steps (A .labels)) (sym (named .start)) at-start))
-
-  pub more-states : ((p : ℕ) → p < A .states → Reachable A p) → (k : ℕ) → k < A .states → MoreThan k steps (A .labels)
-  more-states all k h = record {
-    set = named .set-of;
-    distinct = λ p q l i. named .distinct p q l (omega arith);
-    reached = λ p l. reachable-set p (all p (omega arith));
-  }
+  pub set-reachable : (p : ℕ) → p < A .states → Reached steps (A .labels) (named .set-of p) → Reaches A (A .start) p
+  set-reachable p h r = let o = state-of (named .set-of p) r in subst (Reaches A (A .start)) (one-name (o .state) p (o .within) h (o .set)) (o .reachable)
 
   pub few-sets : (k : ℕ) → A .states ≤ k → MoreThan k steps (A .labels) → ⊥
   few-sets k small = too-few steps (A .labels) k (named .set-of) (λ x r. let o = state-of x r in (o .state, omega (arith, o .within), o .set))

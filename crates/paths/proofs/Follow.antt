@@ -12,7 +12,7 @@ use Rattle.std.proofs.shelf.Bits.{pow-below}
 use Rattle.paths.specs.declared.path.Step.{Step}
 use Rattle.automata.specs.Automata.{Automaton, Word, WellFormed, run, accepts}
 use Rattle.paths.specs.Meanings.{fits, Means}
-use Rattle.paths.specs.Positions.{Holds, outset, keeps, takes, Goes, Moved, Named}
+use Rattle.paths.specs.Positions.{Holds, start-set, keeps, takes, Goes, Moved, Named}
 use Rattle.paths.proofs.Words.{means-some, means-first, means-fit, means-skip}
 
 -- the step behind position j, and what is behind it
@@ -93,18 +93,18 @@ module _ (steps : List Step) (a m n : ℕ) (moved : Moved steps a m n) (w : List
       (λ past. absurd (omega (arith, goes-before steps a (o .0) (h .at) (o .2))))
       (behind steps (o .0))
 
--- the outset holds position 0 alone
-outset-first : (j : ℕ) → Holds outset j → j ≡ 0
-outset-first zero h = refl
-outset-first (suc j) h =
+-- the start-set holds position 0 alone
+start-set-first : (j : ℕ) → Holds start-set j → j ≡ 0
+start-set-first zero h = refl
+start-set-first (suc j) h =
     let none : 1 / 2 ^ suc j ≡ 0 = div-eq-of-lt (pow-below 0 (suc j) (omega arith)) in
     absurd (omega (arith, sym h ∙ ap (λ x. x % 2) none))
 
-ahead-outset : (steps : List Step) (w : List ℕ) → Ahead steps outset w → Means steps w
-ahead-outset steps w h = subst (λ j. Means (drop j steps) w) (outset-first (h .at) (h .holds)) (h .means)
+ahead-start-set : (steps : List Step) (w : List ℕ) → Ahead steps start-set w → Means steps w
+ahead-start-set steps w h = subst (λ j. Means (drop j steps) w) (start-set-first (h .at) (h .holds)) (h .means)
 
-outset-ahead : (steps : List Step) (w : List ℕ) → Means steps w → Ahead steps outset w
-outset-ahead steps w h = record { at = 0; within = omega arith; holds = refl; means = h }
+start-set-ahead : (steps : List Step) (w : List ℕ) → Means steps w → Ahead steps start-set w
+start-set-ahead steps w h = record { at = 0; within = omega arith; holds = refl; means = h }
 
 -- a state says yes after w just where w is ahead of its set
 run-ahead : (steps : List Step) (A : Automaton) → WellFormed A → (h : Named steps A) → (p : ℕ) (w : List ℕ) → p < A .states → Word (A .labels) w → Decides (A .yes (run A p w)) (Ahead steps (h .set-of p) w)
@@ -117,4 +117,4 @@ run-ahead steps A f h p (a ∷ w) k (l, word) =
 pub follows-path : (steps : List Step) (A : Automaton) → WellFormed A → Named steps A → (w : List ℕ) → Word (A .labels) w → Decides (accepts A w) (Means steps w)
 follows-path steps A f h w word =
     let all = run-ahead steps A f h (A .start) w (f .start) word in
-    (λ e. ahead-outset steps w (subst (λ m. Ahead steps m w) (h .start) (all .0 e)), λ s. all .1 (subst (λ m. Ahead steps m w) (sym (h .start)) (outset-ahead steps w s)))
+    (λ e. ahead-start-set steps w (subst (λ m. Ahead steps m w) (h .start) (all .0 e)), λ s. all .1 (subst (λ m. Ahead steps m w) (sym (h .start)) (start-set-ahead steps w s)))

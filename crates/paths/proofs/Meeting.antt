@@ -6,7 +6,8 @@ use Prim.Native.Nat.{ℕ, zero, suc, max, _≤_, _<_}
 use native.Mathlib.Omega.{arith}
 use Rattle.std.proofs.shelf.Tests.{cases-lt}
 use Rattle.automata.specs.Automata.{Automaton, Word, run}
-use Rattle.paths.specs.Numbering.{Reachable, met-in-row, met, FirstMet}
+use Rattle.automata.specs.States.{Reaches}
+use Rattle.automata.specs.Numbering.{met-in-row, met, FirstMet}
 
 pub row-grows : (row : ℕ → ℕ) (n a : ℕ) → n ≤ met-in-row row n a
 row-grows row n zero = omega arith
@@ -49,13 +50,13 @@ run-inside A k closed [] word p h = h
 run-inside A k closed (a ∷ w) (l, word) p h = run-inside A k closed w word (A .step p a) (closed p a h l)
 
 -- were state p not met before its row, then no word would lead to it
-pub met-before : (A : Automaton) → FirstMet A → (p : ℕ) → Reachable A p → p < met (A .labels) (A .step) p
+pub met-before : (A : Automaton) → FirstMet A → (p : ℕ) → Reaches A (A .start) p → p < met (A .labels) (A .step) p
 met-before A first p r = ⊎-elim
     (λ (less : p < n). less)
     (λ (past : n ≤ p).
     let start : A .start < n = omega (arith, first .start, rows-grow (A .labels) (A .step) 0 p (omega arith)) in
     let inside = run-inside A n (λ q a h. rows-meet (A .labels) (A .step) p q a (omega arith)) (r .by) (r .word) (A .start) start in
-    absurd (omega (arith, inside, r .reaches)))
+    absurd (omega (arith, inside, r .leads)))
     (cases-lt p n)
   where
     n : ℕ

@@ -10,7 +10,7 @@ use Rattle.std.proofs.shelf.Tests.{cases-lt}
 use Rattle.std.proofs.shelf.Ways.{same-from-decides}
 use Rattle.automata.specs.Automata.{Automaton}
 use Rattle.paths.specs.declared.path.Step.{Step}
-use Rattle.paths.specs.Numbering.{met-in-row, met, Alike}
+use Rattle.automata.specs.Numbering.{met-in-row, met, Alike}
 use Rattle.paths.specs.Positions.{Holds, Moved}
 use Rattle.paths.specs.Tables.{Compiled}
 use Rattle.paths.proofs.Counted.{one-name}

@@ -10,10 +10,11 @@ use lib.ListN.{length, getD, set}
 use Rattle.std.proofs.shelf.Lists.{getD-set-same, getD-set-other}
 use Rattle.std.proofs.shelf.Tests.{cases-lt}
 use Rattle.paths.specs.declared.path.Step.{Step}
-use Rattle.paths.specs.Numbering.{met-in-row}
+use Rattle.paths.specs.declared.sets.Sets.{Sets}
+use Rattle.automata.specs.Numbering.{met-in-row}
 use Rattle.paths.specs.Positions.{Moved}
-use Rattle.paths.specs.Sets.{Numbered}
-use Rattle.paths.specs.Scans.{Row}
+use Rattle.paths.specs.Sets.{Numbered, Full}
+use Rattle.paths.specs.Scans.{Row, Stuck}
 use Rattle.paths.proofs.Meeting.{row-grows, row-meets, row-same}
 
 -- below n, a list with x written at n is as it was
@@ -64,3 +65,9 @@ module _ (steps : List Step) (from : ℕ) (old : List ℕ) (n : ℕ) where
 
       step : (q ≤ m) × (l ≡ max m (suc q))
       step = ⊎-elim (λ (s : (q < m) × (l ≡ m)). (omega (arith, s .0), omega (arith, s .0, s .1))) (λ (s : (q ≡ m) × (l ≡ m + 1)). (omega (arith, s .0), omega (arith, s .0, s .1))) (num .next)
+
+-- a row that leads to one set too many leaves the sets as they are
+pub stuck-at : (steps : List Step) (labels from set : ℕ) (old : List ℕ) (n label : ℕ) (row : List ℕ) (met after : Sets) (over : ℕ) → from ≡ set → label < labels → Row steps from old n label row (met .sets) (met .count) → Moved steps label from over → Full (met .sets) (met .count) over × (after ≡ met) → Stuck steps labels set old n (after .sets) (after .count)
+stuck-at steps labels from set old n label row met after over is before scanned leads (full, same) =
+    subst (λ s. Stuck steps labels s old n (after .sets) (after .count)) is
+    (subst (λ t. Stuck steps labels from old n (t .sets) (t .count)) (sym same) (record { label = label; row = row; over = over; before = before; scanned = scanned; leads = leads; full = full }))

@@ -12,13 +12,13 @@ use lib.ListN.{length, getD, set}
 use Rattle.std.proofs.shelf.Lists.{getD-set-same, getD-set-other}
 use Rattle.std.proofs.shelf.Tests.{cases-lt, cond-true, lt-ltb}
 use Rattle.paths.specs.declared.path.Step.{Step}
-use Rattle.paths.specs.Numbering.{met-in-row, met}
-use Rattle.paths.specs.Positions.{outset, Moved, Reached, at-start, by-label, MoreThan}
+use Rattle.automata.specs.Numbering.{met-in-row, met}
+use Rattle.paths.specs.Positions.{start-set, Moved, Reached, at-start, by-label, MoreThan}
 use Rattle.paths.specs.Scans.{Row, Stuck, target, Scanned}
 use Rattle.paths.proofs.Meeting.{row-grows, row-same, rows-same, rows-meet}
 
 module _ (steps : List Step) (labels : ℕ) where
-  pub scan-none : (targets : List (List ℕ)) (sets : List ℕ) (n : ℕ) → n ≡ 1 → getD sets 0 0 ≡ outset → Scanned steps labels targets 0 sets n
+  pub scan-none : (targets : List (List ℕ)) (sets : List ℕ) (n : ℕ) → n ≡ 1 → getD sets 0 0 ≡ start-set → Scanned steps labels targets 0 sets n
   scan-none targets sets n one start = record {
     below = omega arith;
     start = start;

@@ -1,4 +1,3 @@
-pub mod Numbering
 pub mod Meanings
 pub mod Texts
 pub mod FirstSteps

@@ -1,4 +1,4 @@
--- Paths that reach a known number of position sets.
+-- Paths whose tables have a known number of states.
 use mathlib.Core.Path.{_≡_}
 use mathlib.Core.List.{List, [], _∷_}
 use Prim.Native.Nat.{ℕ}
@@ -16,11 +16,11 @@ ab = codes "a" ∷ codes "b" ∷ []
 abbrev pub abc : List (List ℕ)
 abc = codes "a" ∷ codes "b" ∷ codes "c" ∷ []
 
--- the text is read over these names, and its table has k states
+-- the text is read over these names, some automaton is compiled from it, and every such has k states
 pub record HasStates (names : List (List ℕ)) (text : List ℕ) (k : ℕ) : Type 0 where
   pub steps : List Step
   pub read : ReadAs names text steps
-  pub few : MoreThan 32 steps (length names) → ⊥
+  pub some : (A : Automaton) × Compiled steps (length names) A
   pub states : (A : Automaton) → Compiled steps (length names) A → A .states ≡ k
 
 -- the text is read, and reaches more than 32 sets

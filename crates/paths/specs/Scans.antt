@@ -5,8 +5,8 @@ use Prim.Native.Nat.{ℕ, _≤_, _<_}
 use lib.ListN.{getD}
 use Rattle.paths.specs.declared.path.Step.{Step}
 use Rattle.paths.specs.declared.sets.Sets.{Sets}
-use Rattle.paths.specs.Numbering.{met-in-row, met}
-use Rattle.paths.specs.Positions.{outset, Moved, Reached}
+use Rattle.automata.specs.Numbering.{met-in-row, met}
+use Rattle.paths.specs.Positions.{start-set, Moved, Reached}
 use Rattle.paths.specs.Sets.{Full}
 
 -- the first a targets of a row whose set is `set`: before it the n sets `old` were met, after it the m sets `new`
@@ -34,7 +34,7 @@ target targets p a = getD (getD targets p []) a 0
 -- the rows below p are scanned, and met the n sets
 pub record Scanned (steps : List Step) (labels : ℕ) (targets : List (List ℕ)) (p : ℕ) (sets : List ℕ) (n : ℕ) : Type 0 where
   pub below : p ≤ n
-  pub start : getD sets 0 0 ≡ outset
+  pub start : getD sets 0 0 ≡ start-set
   pub moves : (q a : ℕ) → q < p → a < labels → Moved steps a (getD sets q 0) (getD sets (target targets q a) 0)
   pub next : (q a : ℕ) → q < p → a < labels → target targets q a ≤ met-in-row (target targets q) (met labels (target targets) q) a
   pub counts : n ≡ met labels (target targets) p

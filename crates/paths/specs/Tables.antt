@@ -10,7 +10,8 @@ use Rattle.base.specs.declared.table.Table.{Table}
 use Rattle.base.specs.Tables.{automaton}
 use Rattle.paths.specs.declared.path.Step.{Step}
 use Rattle.paths.specs.Meanings.{Means}
-use Rattle.paths.specs.Numbering.{Reachable, FirstMet, Alike}
+use Rattle.automata.specs.States.{Reaches}
+use Rattle.automata.specs.Numbering.{FirstMet, Alike}
 use Rattle.paths.specs.Positions.{MoreThan, Named}
 
 -- the automaton of the steps over the labels below n: its states are the position sets that are reached, at most 32,
@@ -19,7 +20,7 @@ pub record Compiled (steps : List Step) (n : ℕ) (A : Automaton) : Type 0 where
   pub labels : A .labels ≡ n
   pub formed : WellFormed A
   pub named : Named steps A
-  pub reached : (p : ℕ) → p < A .states → Reachable A p
+  pub reached : (p : ℕ) → p < A .states → Reaches A (A .start) p
   pub numbered : FirstMet A
   pub few : MoreThan 32 steps n → ⊥
   pub follows : (w : List ℕ) → Word n w → Decides (accepts A w) (Means steps w)

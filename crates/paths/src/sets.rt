@@ -4,7 +4,7 @@ ghost use mathlib.Core.Logic.{_≢_};
 ghost use Prim.Native.Nat.{ℕ, _<_, _≤_};
 ghost use lib.ListN.{getD};
 ghost use Rattle.std.specs.Options.{Cases};
-ghost use Rattle.paths.specs.Positions.{outset};
+ghost use Rattle.paths.specs.Positions.{start-set};
 ghost use Rattle.paths.specs.Sets.{Numbered, Full};
 
 // At most 32 sets, no two of them equal: the first `count` of `sets`.
@@ -19,7 +19,7 @@ pub(crate) struct Sets {
 impl Sets {
     // One set, of position 0 alone.
     pub(crate) fn new() -> Sets
-        ensures { λ r. ⌜ r .count ≡ 1 ⌝ ∗ ⌜ getD (r .sets) 0 0 ≡ outset ⌝ }
+        ensures { λ r. ⌜ r .count ≡ 1 ⌝ ∗ ⌜ getD (r .sets) 0 0 ≡ start-set ⌝ }
     {
         let mut sets = [0; 32];
         sets[0] = 1;

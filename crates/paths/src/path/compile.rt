@@ -7,7 +7,7 @@ ghost use Rattle.std.specs.Options.{Cases};
 ghost use Rattle.std.specs.Orderings.{Decides};
 ghost use Rattle.std.specs.Results.{Cases as ByOk};
 ghost use Rattle.text.specs.Labelled.{names-of};
-ghost use Rattle.paths.specs.Positions.{outset, Holds, MoreThan};
+ghost use Rattle.paths.specs.Positions.{start-set, Holds, MoreThan};
 ghost use Rattle.paths.specs.Scans.{RowFrom, StuckFrom, AllScanned};
 ghost use Rattle.paths.specs.Tables.{TableOf, Overfull};
 ghost use Rattle.paths.specs.Texts.{steps-of};
@@ -39,7 +39,7 @@ impl Path {
 
 // The targets of all states that are met; nothing where the sets run out of numbers.
 fn targets(sets: &mut Sets, steps: &[Step], labels: u8) -> Option<[[u8; 16]; 32]>
-    requires { ⌜ length (now steps) ≤ 15 ⌝ ∗ ⌜ labels ≤ 16 ⌝ ∗ ⌜ now sets .count ≡ 1 ⌝ ∗ ⌜ getD (now sets .sets) 0 0 ≡ outset ⌝ }
+    requires { ⌜ length (now steps) ≤ 15 ⌝ ∗ ⌜ labels ≤ 16 ⌝ ∗ ⌜ now sets .count ≡ 1 ⌝ ∗ ⌜ getD (now sets .sets) 0 0 ≡ start-set ⌝ }
     ensures { λ r. ⌜ Cases r (MoreThan 32 (now (steps .entry)) labels) (AllScanned (now (steps .entry)) labels (now (sets .exit))) ⌝ }
 {
     let mut targets = [[0; 16]; 32];

@@ -1,8 +1,9 @@
 -- The opening and the first word make the first step, or none can be read.
-use mathlib.Core.Path.{_≡_, sym, subst, _∙_}
+use mathlib.Core.Path.{_≡_, sym, subst}
 use Prim.Native.Nat.{_+_, _-_}
 use native.Mathlib.Omega.{arith}
 use lib.ListN.{take}
+use Rattle.std.specs.declared.option.Option.the-variants.{Some, None}
 use Rattle.text.specs.Labelled.{names-of}
 use Rattle.text.proofs.Naming.{stored-rule}
 use Rattle.paths.specs.FirstSteps.{Front, First}
@@ -23,7 +24,7 @@ returns-in-Break-test c =
     let tail = tail-is (c .args .text .now) (c .in-Continue-descend .descend) o (c .slash-count-from .result) (c .slash-count-from .ensures) in
     let same : len - 0 ≡ len = omega arith in
     rw (c .from-residual-in-Break-test .ensures) (first-unnamed (names-of labels) (stored-rule (labels .count) (labels .names)) (c .args .text .now) (c .in-Continue-descend .descend) o len (subst (λ x. Front x len) tail (c .word-len-len .ensures))
-    (c .in-Break-test .ensures tt ∙ (λ i. test-of (names-of labels) (take (same i) (tail i)))))
+    (subst (λ x. None ≡ test-of (names-of labels) x) (λ i. take (same i) (tail i)) (c .in-Break-test .ensures tt)))
 
 pub returns : need.returns
 returns c =
@@ -36,4 +37,4 @@ returns c =
     let same : len - 0 ≡ len = omega arith in
     subst (λ k. First (names-of labels) text (record { descend = c .in-Continue-descend .descend; test = test }) (k + len)) (sym (c .slash-count-from .ensures))
     (first-made (names-of labels) (stored-rule (labels .count) (labels .names)) text (c .in-Continue-descend .descend) o len (subst (λ x. Front x len) tail (c .word-len-len .ensures)) test
-    (c .in-Continue-test .ensures tt ∙ (λ i. test-of (names-of labels) (take (same i) (tail i)))))
+    (subst (λ x. Some test ≡ test-of (names-of labels) x) (λ i. take (same i) (tail i)) (c .in-Continue-test .ensures tt)))

@@ -1,16 +1,9 @@
--- The states of an automaton: which are reached, and when they are numbered as they are first met.
+-- When the states of an automaton are numbered as they are first met, and when two automata are alike.
 use mathlib.Core.Path.{_≡_}
-use mathlib.Core.List.{List}
 use Prim.Native.Nat.{ℕ, zero, suc, max, _≤_, _<_}
-use Rattle.automata.specs.Automata.{Automaton, Word, run}
+use Rattle.automata.specs.Automata.{Automaton}
 
--- some word leads from the start to p
-pub record Reachable (A : Automaton) (p : ℕ) : Type 0 where
-  pub by : List ℕ
-  pub word : Word (A .labels) by
-  pub reaches : run A (A .start) by ≡ p
-
--- how many states are met behind the first a targets of a row, with n met before it
+-- how many states are met behind the first a targets of a row, with n met before it: all up to the largest target
 abbrev pub met-in-row : (ℕ → ℕ) → ℕ → ℕ → ℕ
 met-in-row row n zero = n
 met-in-row row n (suc a) = max (met-in-row row n a) (suc (row a))
