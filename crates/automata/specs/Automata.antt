@@ -1,10 +1,10 @@
 -- Deterministic automata on words of labels.
 use Rattle.std.specs.Prelude.{ℕ, ◌<◌, Bool, List, [], ◌∷◌}
-use Rattle.std.specs.List.{AllByRecursion as All}
+use Rattle.std.specs.List.{AllByRecursion}
 
 -- a word over the labels below n
 abbrev pub Word : ℕ → List ℕ → Type 0
-Word n = All (λ a. a < n)
+Word n = AllByRecursion (λ a. a < n)
 
 pub record Automaton : Type 0 where
   pub labels : ℕ

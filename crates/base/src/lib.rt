@@ -1,4 +1,6 @@
 //! What a controller carries: tables, tag sources, runs and the stack selector. No heap.
+#![tactic(auto)]
+
 pub mod lines;
 pub mod packed;
 pub mod run;

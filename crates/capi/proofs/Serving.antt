@@ -1,9 +1,9 @@
 -- Runs of the chosen selectors keep the law with the terms of the table.
 use Rattle.std.proofs.Common.{◌≡◌, ℕ, min, List, length, sym, refl, ap, subst}
 use Rattle.automata.specs.Automata.{Automaton, accepts}
-use Rattle.automata.specs.Holding.{meaning as held-meaning, moves as held-moves}
-use Rattle.automata.specs.Noted.{meaning as noted-meaning, moves as noted-moves}
-use Rattle.automata.specs.Storing.{meaning as stored-meaning}
+use Rattle.automata.specs.Holding.{meaning as held_meaning, moves as held_moves}
+use Rattle.automata.specs.Noted.{meaning as noted_meaning, moves as noted_moves}
+use Rattle.automata.specs.Storing.{meaning as stored_meaning}
 use Rattle.base.specs.History.{terms}
 use Rattle.base.specs.Sources.{Source}
 use Rattle.base.specs.Storing.{storing}
@@ -19,26 +19,26 @@ use Rattle.capi.specs.declared.reading.Reading.{Reading}
 use Rattle.capi.proofs.Booking.{agreed_so}
 
 module _ (A : Automaton) (limit : ℕ) (source : Source) (stack list list' : List ℕ) (r : Reading) where
-  held : (s : RegisterlessSelector) → HeldBegins A s → Runs (held-meaning holding) (held-moves holding) s limit source list list' r → Reads A (Registerless s) limit source stack stack list list' r
+  held : (s : RegisterlessSelector) → HeldBegins A s → Runs (held_meaning holding) (held_moves holding) s limit source list list' r → Reads A (Registerless s) limit source stack stack list list' r
   held s b runs =
       let same = b.minimised in
       record {
         runs = (runs, refl);
-        law = agreed_so (terms (held-meaning holding) s limit) (agreed A limit 65535) (record { limit = refl; labels = same.labels; carry = refl; wants = same.accepts }) source list list' r runs.law;
+        law = agreed_so (terms (held_meaning holding) s limit) (agreed A limit 65535) (record { limit = refl; labels = same.labels; carry = refl; wants = same.accepts }) source list list' r runs.law;
       }
 
-  noted : (s : StacklessSelector) → NotedBegins A s → Runs (noted-meaning noting) (noted-moves noting) s limit source list list' r → Reads A (Stackless s) limit source stack stack list list' r
+  noted : (s : StacklessSelector) → NotedBegins A s → Runs (noted_meaning noting) (noted_moves noting) s limit source list list' r → Reads A (Stackless s) limit source stack stack list list' r
   noted s b runs =
       let same = b.minimised in
       record {
         runs = (runs, refl);
-        law = agreed_so (terms (noted-meaning noting) s limit) (agreed A limit 65535) (record { limit = refl; labels = same.labels; carry = refl; wants = same.accepts }) source list list' r runs.law;
+        law = agreed_so (terms (noted_meaning noting) s limit) (agreed A limit 65535) (record { limit = refl; labels = same.labels; carry = refl; wants = same.accepts }) source list list' r runs.law;
       }
 
   stored : (stack' : List ℕ) → length stack' ≡ length stack → StackRuns A stack limit source list list' r → Reads A Stack limit source stack stack' list list' r
   stored stack' long runs = record {
     runs = (runs, long);
-    law = agreed_so (terms (stored-meaning storing) runs.selector limit) (agreed A limit (min 65535 (length stack))) (record {
+    law = agreed_so (terms (stored_meaning storing) runs.selector limit) (agreed A limit (min 65535 (length stack))) (record {
       limit = refl;
       labels = ap (λ B. B.labels) runs.table;
       carry = ap (λ bytes. min 65535 (length bytes)) runs.lent;
@@ -47,10 +47,10 @@ module _ (A : Automaton) (limit : ℕ) (source : Source) (stack list list' : Lis
   }
 
   module _ (c : Chosen) (begins : Begins A c) where
-    pub read_registerless : (s : RegisterlessSelector) → c ≡ Registerless s → Runs (held-meaning holding) (held-moves holding) s limit source list list' r → Reads A c limit source stack stack list list' r
+    pub read_registerless : (s : RegisterlessSelector) → c ≡ Registerless s → Runs (held_meaning holding) (held_moves holding) s limit source list list' r → Reads A c limit source stack stack list list' r
     read_registerless s e runs = subst (λ c. Reads A c limit source stack stack list list' r) (sym e) (held s (subst (Begins A) e begins) runs)
 
-    pub read_stackless : (s : StacklessSelector) → c ≡ Stackless s → Runs (noted-meaning noting) (noted-moves noting) s limit source list list' r → Reads A c limit source stack stack list list' r
+    pub read_stackless : (s : StacklessSelector) → c ≡ Stackless s → Runs (noted_meaning noting) (noted_moves noting) s limit source list list' r → Reads A c limit source stack stack list list' r
     read_stackless s e runs = subst (λ c. Reads A c limit source stack stack list list' r) (sym e) (noted s (subst (Begins A) e begins) runs)
 
   pub read_stack : (c : Chosen) (stack' : List ℕ) → c ≡ Stack → length stack' ≡ length stack → StackRuns A stack limit source list list' r → Reads A c limit source stack stack' list list' r

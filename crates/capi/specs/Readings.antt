@@ -1,10 +1,10 @@
 -- Whole runs: what they promise, and what the book says of them.
 use Rattle.std.specs.Prelude.{◌≡◌, ℕ, List, length}
 use Rattle.automata.specs.Automata.{Automaton, accepts}
-use Rattle.automata.specs.Holding.{meaning as held-meaning, moves as held-moves}
+use Rattle.automata.specs.Holding.{meaning as held_meaning, moves as held_moves}
 use Rattle.automata.specs.Meaning.{Meaning, Moves}
-use Rattle.automata.specs.Noted.{meaning as noted-meaning, moves as noted-moves}
-use Rattle.automata.specs.Storing.{meaning as stored-meaning, moves as stored-moves}
+use Rattle.automata.specs.Noted.{meaning as noted_meaning, moves as noted_moves}
+use Rattle.automata.specs.Storing.{meaning as stored_meaning, moves as stored_moves}
 use Rattle.base.specs.Book.{Terms, blank, course, drains, Nested}
 use Rattle.base.specs.Courses.{cause_of, laid}
 use Rattle.base.specs.History.{Totalled, terms}
@@ -49,12 +49,12 @@ pub record StackRuns (A : Automaton) (bytes : List ℕ) (limit : ℕ) (source : 
   pub selector : StackSelector
   pub table : automaton selector.table.now ≡ A
   pub lent : selector.store.places.now ≡ bytes
-  pub runs : Runs (stored-meaning storing) (stored-moves storing) selector limit source list list' r
+  pub runs : Runs (stored_meaning storing) (stored_moves storing) selector limit source list list' r
 
 -- a run of the chosen selector; only the stack selector writes to the stack
 abbrev pub ChosenRuns : Automaton → Chosen → ℕ → Source → List ℕ → List ℕ → List ℕ → List ℕ → Reading → Type 0
-ChosenRuns A (Registerless s) limit source stack stack' list list' r = Runs (held-meaning holding) (held-moves holding) s limit source list list' r × (stack' ≡ stack)
-ChosenRuns A (Stackless s) limit source stack stack' list list' r = Runs (noted-meaning noting) (noted-moves noting) s limit source list list' r × (stack' ≡ stack)
+ChosenRuns A (Registerless s) limit source stack stack' list list' r = Runs (held_meaning holding) (held_moves holding) s limit source list list' r × (stack' ≡ stack)
+ChosenRuns A (Stackless s) limit source stack stack' list list' r = Runs (noted_meaning noting) (noted_moves noting) s limit source list list' r × (stack' ≡ stack)
 ChosenRuns A Stack limit source stack stack' list list' r = StackRuns A stack limit source list list' r × (length stack' ≡ length stack)
 
 -- what a run over A agrees on

@@ -1,4 +1,6 @@
 //! Tests through the library: examples, and each refusal.
+#![tactic(auto)]
+
 #[cfg(test)]
 mod grades;
 #[cfg(test)]

@@ -1,4 +1,6 @@
 //! crosscheck: holds the library against a second evaluator, over generated queries and documents.
+#![tactic(auto)]
+
 mod answers;
 mod book;
 mod checker;

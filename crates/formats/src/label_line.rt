@@ -48,7 +48,7 @@ pub(crate) fn first_line(text: &[u8]) -> Result<(&[u8], &[u8]), Refusal>
 pub(crate) fn read_line(line: &[u8]) -> Result<Labels, Refusal>
     ensures { read_names result ≡ names_in (split 9 line.now) }
 {
-    if line == b"labels" {
+    if line == b"labels".as_slice() {
         return Err(Refusal::NameCount);
     }
     let Some(names) = line.strip_prefix(b"labels\t") else {

@@ -1,4 +1,6 @@
 //! Tables made minimal and graded, the selectors that need no stack, and the main promise. No heap.
+#![tactic(auto)]
+
 mod backward;
 pub mod begun;
 pub mod clash;

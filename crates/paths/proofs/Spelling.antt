@@ -1,6 +1,6 @@
 -- The first step of a text, and that no other can be read.
 use Rattle.std.proofs.Common.{◌≡◌, ℕ, zero, suc, ◌+◌, ◌-◌, ◌<◌, ◌≤◌, Bool, true, false, cond, ◌≢◌, List, [], ◌∷◌, ◌++◌, length, get_or, take, drop, Some, None, Decides, Option, sym, refl, ap, ◌∙◌, subst, append_assoc, arith, take-append-drop}
-use Rattle.std.specs.List.{AllByRecursion as All}
+use Rattle.std.specs.List.{AllByRecursion}
 use Rattle.std.specs.Str.{bytes_eq}
 use Rattle.std.proofs.ByRecursion.{All-from_get_or}
 use Rattle.std.proofs.lemmas.Slice.Eq.{bytes_eq-Decides}
@@ -27,7 +27,7 @@ Ends [] = Unit {0}
 Ends (b ∷ bs) = b ≡ slash
 
 abbrev Clean : List ℕ → Type 0
-Clean = All (λ b. b ≢ slash)
+Clean = AllByRecursion (λ b. b ≢ slash)
 
 front_clean : (text : List ℕ) (n : ℕ) → Front text n → Clean (take n text)
 front_clean text n h =

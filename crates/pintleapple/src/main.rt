@@ -1,4 +1,6 @@
 //! pintleapple: picks elements out of a document while it is read, tag by tag.
+#![tactic(auto)]
+
 mod grade;
 mod options;
 mod pick;

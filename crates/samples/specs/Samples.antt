@@ -1,8 +1,8 @@
 -- Paths, tables and runs that are written out, with their states, grades and picks.
 use Rattle.std.specs.Prelude.{◌≡◌, ℕ, true, false, List, [], ◌∷◌, length, codes}
 use Rattle.automata.specs.Automata.{Automaton}
-use Rattle.automata.specs.Holding.{meaning as held-meaning, moves as held-moves}
-use Rattle.automata.specs.Noted.{meaning as noted-meaning, moves as noted-moves}
+use Rattle.automata.specs.Holding.{meaning as held_meaning, moves as held_moves}
+use Rattle.automata.specs.Noted.{meaning as noted_meaning, moves as noted_moves}
 use Rattle.automata.specs.declared.tag.Tag.{Tag}
 use Rattle.automata.specs.declared.tag.Tag.TheVariants.{Open, Close}
 use Rattle.base.specs.Tables.{automaton}
@@ -84,5 +84,5 @@ pub record Samples : Type 0 where
   pub turning_table : TableGraded turning 2 Registerless
   pub idle_table : TableGraded idle 1 Registerless
   -- the registerless selector picks element 2, and the stackless one elements 2 and 4 of five, in a whole document
-  pub child_below_run : PathReads (held-meaning holding) (held-moves holding) HeldBegins abc (codes "/a//b") going_back (2 ∷ []) 3 false
-  pub child_child_run : PathReads (noted-meaning noting) (noted-moves noting) NotedBegins abc (codes "/a/b") between (2 ∷ 4 ∷ []) 5 true
+  pub child_below_run : PathReads (held_meaning holding) (held_moves holding) HeldBegins abc (codes "/a//b") going_back (2 ∷ []) 3 false
+  pub child_child_run : PathReads (noted_meaning noting) (noted_moves noting) NotedBegins abc (codes "/a/b") between (2 ∷ 4 ∷ []) 5 true

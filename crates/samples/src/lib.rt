@@ -1,2 +1,4 @@
 //! Worked examples as theorems: paths, tables and runs that are written out.
+#![tactic(auto)]
+
 pub mod samples;

@@ -18,8 +18,8 @@ const MOST_OPENINGS: u32 = 1_000_000;
 impl<S: Selector> Run<S> {
     /// Renews the selector, and never refuses: an unfit limit refuses each tag.
     pub fn begin(mut selector: S, limit: u32) -> Run<S>
-        ensures promise { BeginPromise moves selector limit result }
-        ensures law { KeepsItsBook meaning moves selector limit result }
+        ensures promise { BeginPromise S.moves selector limit result }
+        ensures law { KeepsItsBook S.meaning S.moves selector limit result }
     {
         selector.renew();
         Run {
@@ -34,7 +34,7 @@ impl<S: Selector> Run<S> {
 
     /// Opens an element: its number, and whether the selector wants it.
     pub fn open(&mut self, label: u8) -> Result<Opened, Refusal>
-        ensures { OpenPromise meaning moves self.old label self.new result }
+        ensures { OpenPromise S.meaning S.moves self.old label self.new result }
     {
         match self.offer(Tag::Open(label))? {
             Taken::Opened(opened) => Ok(opened),
@@ -44,7 +44,7 @@ impl<S: Selector> Run<S> {
 
     /// Closes the innermost element: the depth left.
     pub fn close(&mut self, label: u8) -> Result<u32, Refusal>
-        ensures { ClosePromise meaning moves self.old label self.new result }
+        ensures { ClosePromise S.meaning S.moves self.old label self.new result }
     {
         match self.offer(Tag::Close(label))? {
             Taken::Opened(_) => unreachable(),
@@ -55,7 +55,7 @@ impl<S: Selector> Run<S> {
     /// Offers each tag of the source until it ends or a tag is refused. The list takes the numbers of the
     /// picked elements from its first place on, as many as fit.
     pub fn drain<T: TagSource>(&mut self, source: &mut T, list: &mut [u32]) -> Drained
-        ensures { DrainPromise meaning moves self.old (holds source.old) list.old self.new (holds source.new) list.new result }
+        ensures { DrainPromise S.meaning S.moves self.old (T.holds source.old) list.old self.new (T.holds source.new) list.new result }
     {
         let mut offered = 0;
         let mut picks = 0;
@@ -115,7 +115,7 @@ impl<S: Selector> Run<S> {
 
     // Steps by a tag, or refuses it: the limit and the label are tested first, and then tag and phase decide.
     fn offer(&mut self, tag: Tag) -> Result<Taken, Refusal>
-        ensures { OfferPromise meaning moves self.old tag self.new result }
+        ensures { OfferPromise S.meaning S.moves self.old tag self.new result }
     {
         let (Tag::Open(label) | Tag::Close(label)) = tag;
         if self.limit == 0 || self.limit > MOST_DEPTH || self.limit > self.selector.carry() {
@@ -143,7 +143,7 @@ impl<S: Selector> Run<S> {
     // One level down.
     fn enter(&mut self, label: u8) -> Opened
         requires { (self.old.depth < self.old.limit) × (self.old.openings < 1000000) }
-        ensures { Opens moves self.old label self.new result }
+        ensures { Opens S.moves self.old label self.new result }
     {
         let element = self.openings;
         let picked = self.selector.open(label);
@@ -159,7 +159,7 @@ impl<S: Selector> Run<S> {
     // One level up: the depth left.
     fn leave(&mut self, label: u8) -> u32
         requires { 0 < self.old.depth }
-        ensures { Closes moves self.old label self.new result }
+        ensures { Closes S.moves self.old label self.new result }
     {
         self.selector.close(label);
         if self.depth == 1 {

@@ -1,6 +1,6 @@
 //! How the stack selector moves.
 ghost use Rattle.std.specs.Prelude.{◌≡◌};
-ghost use Rattle.automata.specs.Storing.{carry, meaning as meaning-by, moves as moves-by};
+ghost use Rattle.automata.specs.Storing.{carry, meaning as meaning_by, moves as moves_by};
 ghost use Rattle.automata.proofs.Storing.{storing_rules};
 ghost use Rattle.base.specs.Stacks.{used};
 ghost use Rattle.base.specs.Storing.{storing};
@@ -51,9 +51,9 @@ impl<'a> StackSelector<'a> {
 }
 
 impl<'a> Selector for StackSelector<'a> {
-    ghost meaning = { meaning-by storing };
+    ghost meaning = { meaning_by storing };
 
-    ghost moves = { moves-by storing };
+    ghost moves = { moves_by storing };
 
     ghost rules = { storing_rules storing };
 

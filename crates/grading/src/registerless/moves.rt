@@ -1,5 +1,5 @@
 //! How the registerless selector is made, and how it moves.
-ghost use Rattle.automata.specs.Holding.{meaning as meaning-by, moves as moves-by};
+ghost use Rattle.automata.specs.Holding.{meaning as meaning_by, moves as moves_by};
 ghost use Rattle.automata.proofs.Holding.{holding_rules};
 ghost use Rattle.base.specs.Tables.{automaton};
 ghost use Rattle.grading.specs.Holding.{Selects, holding};
@@ -33,9 +33,9 @@ impl RegisterlessSelector {
 }
 
 impl Selector for RegisterlessSelector {
-    ghost meaning = { meaning-by holding };
+    ghost meaning = { meaning_by holding };
 
-    ghost moves = { moves-by holding };
+    ghost moves = { moves_by holding };
 
     ghost rules = { holding_rules holding };
 

@@ -1,7 +1,7 @@
 //! How the stackless selector is made, and how it moves.
 ghost use Rattle.std.specs.Prelude.{◌≡◌, ◌+◌, ◌<◌, ◌≤◌, length};
 ghost use Rattle.automata.specs.Components.{Components};
-ghost use Rattle.automata.specs.Noted.{meaning as meaning-by, moves as moves-by};
+ghost use Rattle.automata.specs.Noted.{meaning as meaning_by, moves as moves_by};
 ghost use Rattle.automata.specs.States.{Together};
 ghost use Rattle.automata.proofs.Noting.{noting_rules};
 ghost use Rattle.base.specs.Tables.{automaton};
@@ -66,9 +66,9 @@ impl StacklessSelector {
 }
 
 impl Selector for StacklessSelector {
-    ghost meaning = { meaning-by noting };
+    ghost meaning = { meaning_by noting };
 
-    ghost moves = { moves-by noting };
+    ghost moves = { moves_by noting };
 
     ghost rules = { noting_rules noting };
 

@@ -96,7 +96,7 @@ fn word_len(text: &[u8]) -> usize
 fn test_of(labels: &Labels, word: &[u8]) -> Option<Test>
     ensures { result ≡ test_of (names_of labels.now) word.now }
 {
-    if word == b"*" {
+    if word == b"*".as_slice() {
         return Some(Test::Any);
     }
     match labels.find(word) {

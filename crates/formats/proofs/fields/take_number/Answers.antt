@@ -4,14 +4,14 @@ use Rattle.text.specs.Pieces.{split}
 use Rattle.formats.proofs.Splitting.{not_last, number_found, number_missing}
 use Rattle.formats.proofs.fields.take_number.Goals as goal
 
-pub returns-in-err-field : goal.returns-in-err-field
-returns-in-err-field c =
-    rw c.from-residual.ensures (λ n tail small at. not_last c.args.end _ tail _ (ap (split c.args.end) (sym at) ∙ c.in-err-field.ensures))
+pub returns-in_err-field : goal.returns-in_err-field
+returns-in_err-field c =
+    rw c.from_residual.ensures (λ n tail small at. not_last c.args.end _ tail _ (ap (split c.args.end) (sym at) ∙ c.in_err-field.ensures))
 
-pub returns-in-err-n : goal.returns-in-err-n
-returns-in-err-n c =
-    rw c.from-residual-in-err-n.ensures (number_missing c.args.end c.requires _ _ _ c.in-ok-field.ensures.0 c.in-err-n.ensures)
+pub returns-in_err-n : goal.returns-in_err-n
+returns-in_err-n c =
+    rw c.from_residual-in_err-n.ensures (number_missing c.args.end c.requires _ _ _ c.in_ok-field.ensures.0 c.in_err-n.ensures)
 
 pub returns : goal.returns
 returns c =
-    number_found c.args.end c.requires _ _ _ c.in-ok-field.ensures.0 c.in-ok-n.n (search rules) c.in-ok-n.ensures
+    number_found c.args.end c.requires _ _ _ c.in_ok-field.ensures.0 c.in_ok-n.n (search rules) c.in_ok-n.ensures

@@ -8,19 +8,19 @@ use Rattle.formats.proofs.Splitting.{not_last}
 use Rattle.formats.proofs.label_line.first_line.Goals as goal
 use Rattle.std.proofs.lemmas.Bool.Decides.{Decides-eqb}
 
-pub returns-then-text-gt-MAX-TEXT : goal.returns-then-text-gt-MAX-TEXT
-returns-then-text-gt-MAX-TEXT c = too_long c.if-text-gt-MAX-TEXT.true
+pub returns-then-text-gt-MAX_TEXT : goal.returns-then-text-gt-MAX_TEXT
+returns-then-text-gt-MAX_TEXT c = too_long c.if-text-gt-MAX_TEXT.true
 
-pub returns-then-not-ends-with : goal.returns-then-not-ends-with
-returns-then-not-ends-with c =
-    let ends = ends_is Decides-eqb c.args.text.now (10 ∷ []) _ c.ends-with.ensures.value in
-    unended c.if-text-gt-MAX-TEXT.false (λ e. both_ways _ c.if-not-ends-with.true (ends.1 e.0 e.1))
+pub returns-then-not-ends_with : goal.returns-then-not-ends_with
+returns-then-not-ends_with c =
+    let ends = ends_is Decides-eqb c.args.text.now (10 ∷ []) _ c.ends_with.ensures.value in
+    unended c.if-text-gt-MAX_TEXT.false (λ e. both_ways _ c.if-not-ends_with.true (ends.1 e.0 e.1))
 
-pub returns-in-default : goal.returns-in-default
-returns-in-default c =
-    unended c.if-text-gt-MAX-TEXT.false (λ e. not_last 10 e.0 [] _ (ap (split 10) (sym e.1) ∙ c.in-default.ensures))
+pub returns-in_default : goal.returns-in_default
+returns-in_default c =
+    unended c.if-text-gt-MAX_TEXT.false (λ e. not_last 10 e.0 [] _ (ap (split 10) (sym e.1) ∙ c.in_default.ensures))
 
 pub returns : goal.returns
 returns c =
-    let ends = ends_is Decides-eqb c.args.text.now (10 ∷ []) _ c.ends-with.ensures.value in
-    record { fits = c.if-text-gt-MAX-TEXT.false; ended = (_, ends.0 c.if-not-ends-with.false); cut = c.in-Some.ensures.0 }
+    let ends = ends_is Decides-eqb c.args.text.now (10 ∷ []) _ c.ends_with.ensures.value in
+    record { fits = c.if-text-gt-MAX_TEXT.false; ended = (_, ends.0 c.if-not-ends_with.false); cut = c.in-Some.ensures.0 }

@@ -6,18 +6,18 @@ use Rattle.text.specs.Pieces.{listed}
 use Rattle.formats.proofs.NameFields.{push_refused, push_more}
 use Rattle.formats.proofs.label_line.push_names.Goals as goal
 
-pub returns-in-err-push : goal.returns-in-err-push
-returns-in-err-push c =
-    let p = err_from_is_err_and c.from-residual-in-err-push.result c.from-residual-in-err-push.ensures.1 in
-    let all = sym (ap (λ ps. names_of c.loop-name.labels ++ listed ps) c.in-Some-split-once.ensures.0) ∙ c.loop-name.invariant in
-    rw (p.1, p.2) (push_refused _ _ _ _ _ all c.requires.0 c.requires.1 c.in-err-push.ensures.result)
+pub returns-in_err-push : goal.returns-in_err-push
+returns-in_err-push c =
+    let p = err_from_is_err_and c.from_residual-in_err-push.result c.from_residual-in_err-push.ensures.1 in
+    let all = sym (ap (λ ps. names_of c.loop-name.labels ++ listed ps) c.in-Some-split_once.ensures.0) ∙ c.loop-name.invariant in
+    rw (p.1, p.2) (push_refused _ _ _ _ _ all c.requires.0 c.requires.1 c.in_err-push.ensures.result)
 
 pub loop-name-preserved : goal.loop-name-preserved
 loop-name-preserved c =
-    push_more _ _ _ _ _ _ c.in-ok-push.ensures.names c.in-Some-split-once.ensures.0 c.loop-name.invariant
+    push_more _ _ _ _ _ _ c.in_ok-push.ensures.names c.in-Some-split_once.ensures.0 c.loop-name.invariant
 
-pub returns-in-err-push-2 : goal.returns-in-err-push-2
-returns-in-err-push-2 c =
-    let p = err_from_is_err_and c.from-residual-in-err-push-2.result c.from-residual-in-err-push-2.ensures.1 in
-    let all = sym (ap (λ ps. names_of c.loop-name.labels ++ listed ps) c.in-default-split-once.ensures) ∙ c.loop-name.invariant in
-    rw (p.1, p.2) (push_refused _ _ _ _ _ all c.requires.0 c.requires.1 c.in-err-push-2.ensures.result)
+pub returns-in_err-push-2 : goal.returns-in_err-push-2
+returns-in_err-push-2 c =
+    let p = err_from_is_err_and c.from_residual-in_err-push-2.result c.from_residual-in_err-push-2.ensures.1 in
+    let all = sym (ap (λ ps. names_of c.loop-name.labels ++ listed ps) c.in_default-split_once.ensures) ∙ c.loop-name.invariant in
+    rw (p.1, p.2) (push_refused _ _ _ _ _ all c.requires.0 c.requires.1 c.in_err-push-2.ensures.result)

@@ -8,45 +8,45 @@ use Rattle.formats.proofs.Heading.{headed, badly_named}
 use Rattle.formats.proofs.Tabling.{no_states, rows_missing, rows_followed, target_outside, table_made}
 use Rattle.formats.proofs.table_text.read_table.Goals as goal
 
-pub returns-in-err-line : goal.returns-in-err-line
-returns-in-err-line c =
-    let p = err_from_is_err_and c.from-residual.result c.from-residual.ensures.1 in
-    rw (p.1, p.2) (unheaded _ c.in-err-line.ensures)
+pub returns-in_err-line : goal.returns-in_err-line
+returns-in_err-line c =
+    let p = err_from_is_err_and c.from_residual.result c.from_residual.ensures.1 in
+    rw (p.1, p.2) (unheaded _ c.in_err-line.ensures)
 
-pub returns-in-err-labels : goal.returns-in-err-labels
-returns-in-err-labels c =
-    let p = err_from_is_err_and c.from-residual-in-err-labels.result c.from-residual-in-err-labels.ensures.1 in
-    rw (p.1, p.2) (unheaded _ (badly_named _ _ _ c.in-ok-line.ensures _ c.in-err-labels.ensures))
+pub returns-in_err-labels : goal.returns-in_err-labels
+returns-in_err-labels c =
+    let p = err_from_is_err_and c.from_residual-in_err-labels.result c.from_residual-in_err-labels.ensures.1 in
+    rw (p.1, p.2) (unheaded _ (badly_named _ _ _ c.in_ok-line.ensures _ c.in_err-labels.ensures))
 
-pub returns-in-default : goal.returns-in-default
-returns-in-default c =
-    let head = headed _ _ _ c.in-ok-line.ensures _ c.in-ok-labels.ensures in
-    no_states _ _ _ head c.in-default.ensures
+pub returns-in_default : goal.returns-in_default
+returns-in_default c =
+    let head = headed _ _ _ c.in_ok-line.ensures _ c.in_ok-labels.ensures in
+    no_states _ _ _ head c.in_default.ensures
 
-pub returns-in-default-take-rows : goal.returns-in-default-take-rows
-returns-in-default-take-rows c =
-    let head = headed _ _ _ c.in-ok-line.ensures _ c.in-ok-labels.ensures in
-    rows_missing _ _ _ head _ _ _ c.in-Some.ensures.0 c.in-Some.ensures.1 _ c.count-n.ensures c.in-default-take-rows.ensures
+pub returns-in_default-take_rows : goal.returns-in_default-take_rows
+returns-in_default-take_rows c =
+    let head = headed _ _ _ c.in_ok-line.ensures _ c.in_ok-labels.ensures in
+    rows_missing _ _ _ head _ _ _ c.in-Some.ensures.0 c.in-Some.ensures.1 _ c.count-n.ensures c.in_default-take_rows.ensures
 
-pub returns-then-not-is-empty : goal.returns-then-not-is-empty
-returns-then-not-is-empty c =
-    let head = headed _ _ _ c.in-ok-line.ensures _ c.in-ok-labels.ensures in
-    rows_followed _ _ _ head _ _ _ c.in-Some.ensures.0 c.in-Some.ensures.1 _ c.count-n.ensures c.in-Some-take-rows.rows.targets c.in-Some-take-rows.rows.accepting c.in-Some-take-rows.rest.now c.in-Some-take-rows.ensures (λ e. eqb-false _ _ (sym c.if-not-is-empty.ensures) (ap length e))
+pub returns-then-not-is_empty : goal.returns-then-not-is_empty
+returns-then-not-is_empty c =
+    let head = headed _ _ _ c.in_ok-line.ensures _ c.in_ok-labels.ensures in
+    rows_followed _ _ _ head _ _ _ c.in-Some.ensures.0 c.in-Some.ensures.1 _ c.count-n.ensures c.in-Some-take_rows.rows.targets c.in-Some-take_rows.rows.accepting c.in-Some-take_rows.rest.now c.in-Some-take_rows.ensures (λ e. eqb-false _ _ (sym c.if-not-is_empty.ensures) (ap length e))
 
-pub returns-in-err-table : goal.returns-in-err-table
-returns-in-err-table c =
-    let p = err_from_is_err_and c.from-residual-in-err-table.result c.from-residual-in-err-table.ensures.1 in
-    let head = headed _ _ _ c.in-ok-line.ensures _ c.in-ok-labels.ensures in
+pub returns-in_err-table : goal.returns-in_err-table
+returns-in_err-table c =
+    let p = err_from_is_err_and c.from_residual-in_err-table.result c.from_residual-in_err-table.ensures.1 in
+    let head = headed _ _ _ c.in_ok-line.ensures _ c.in_ok-labels.ensures in
     let low : 1 ≤ c.count-n.result = omega arith in
     let high : c.count-n.result ≤ 16 = omega arith in
-    rw (p.1, p.2) (target_outside _ _ _ head _ _ _ c.in-Some.ensures.0 c.in-Some.ensures.1 _ c.count-n.ensures c.in-Some-take-rows.rows.targets c.in-Some-take-rows.rows.accepting c.in-Some-take-rows.rest.now c.in-Some-take-rows.ensures _ low high c.in-err-table.ensures)
+    rw (p.1, p.2) (target_outside _ _ _ head _ _ _ c.in-Some.ensures.0 c.in-Some.ensures.1 _ c.count-n.ensures c.in-Some-take_rows.rows.targets c.in-Some-take_rows.rows.accepting c.in-Some-take_rows.rest.now c.in-Some-take_rows.ensures _ low high c.in_err-table.ensures)
 
 pub returns : goal.returns
 returns c =
-    let head = headed _ _ _ c.in-ok-line.ensures _ c.in-ok-labels.ensures in
-    let none = nil_from_length _ (eqb-true _ _ (sym c.if-not-is-empty.ensures)) in
-    let has = c.in-ok-table.ensures.1 in
+    let head = headed _ _ _ c.in_ok-line.ensures _ c.in_ok-labels.ensures in
+    let none = nil_from_length _ (eqb-true _ _ (sym c.if-not-is_empty.ensures)) in
+    let has = c.in_ok-table.ensures.1 in
     record {
-      whole = table_made _ _ _ head _ _ _ c.in-Some.ensures.0 c.in-Some.ensures.1 _ c.count-n.ensures c.in-Some-take-rows.rows.targets c.in-Some-take-rows.rows.accepting c.in-Some-take-rows.rest.now c.in-Some-take-rows.ensures _ none has;
+      whole = table_made _ _ _ head _ _ _ c.in-Some.ensures.0 c.in-Some.ensures.1 _ c.count-n.ensures c.in-Some-take_rows.rows.targets c.in-Some-take_rows.rows.accepting c.in-Some-take_rows.rest.now c.in-Some-take_rows.ensures _ none has;
       labels = has.labels ∙ c.count-n.ensures;
     }

@@ -9,7 +9,7 @@ pub loop-at-preserved : goal.loop-at-preserved
 loop-at-preserved c =
     let steps = c.args.steps.now in
     elim c.if-holds.branch [
-      | then-holds w ↦ subst (From steps c.args.label c.args.set (c.loop-at.at + 1)) (sym w.next-is) (from_take steps _ _ _ _ _ c.loop-at.invariant (c.holds.ensures.0 w.if-holds.true) w.with-next-next.ensures)
+      | then-holds w ↦ subst (From steps c.args.label c.args.set (c.loop-at.at + 1)) (sym w.next-is) (from_take steps _ _ _ _ _ c.loop-at.invariant (c.holds.ensures.0 w.if-holds.true) w.with_next-next.ensures)
       | else-holds w ↦ subst (From steps c.args.label c.args.set (c.loop-at.at + 1)) (sym w.next-is) (from_skip steps _ _ _ _ c.loop-at.invariant (not_from_Decides _ c.holds.ensures w.if-holds.false))
     ]
 

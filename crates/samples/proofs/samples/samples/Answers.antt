@@ -2,8 +2,8 @@
 use Rattle.std.proofs.Common.{true, false, not, ◌&&◌, eqb, [], ◌∷◌, get_or, codes, refl, true≢false, arith}
 use mathlib.Core.Bool.{false≢true}
 use Rattle.automata.specs.Automata.{accepts}
-use Rattle.automata.specs.Holding.{meaning as held-meaning, moves as held-moves}
-use Rattle.automata.specs.Noted.{meaning as noted-meaning, moves as noted-moves}
+use Rattle.automata.specs.Holding.{meaning as held_meaning, moves as held_moves}
+use Rattle.automata.specs.Noted.{meaning as noted_meaning, moves as noted_moves}
 use Rattle.automata.proofs.Holding.{holding_rules}
 use Rattle.automata.proofs.Noting.{noting_rules}
 use Rattle.base.specs.Tables.{automaton}
@@ -80,10 +80,10 @@ returns c = record {
   });
   full = has_states ab ((true, codes "a") ∷ (false, codes "*") ∷ (false, codes "*") ∷ (false, codes "*") ∷ (false, codes "*") ∷ []) (first_words 5) refl (refl, refl) (record { some = refl; start = refl; inside = refl; next = refl; all = refl }) 32 refl (omega arith);
   over = has_none ab ((true, codes "a") ∷ (false, codes "*") ∷ (false, codes "*") ∷ (false, codes "*") ∷ (false, codes "*") ∷ (false, codes "*") ∷ []) (all_words 6) refl (refl, refl) (omega arith);
-  child_below_run = path_reads abc ((false, codes "a") ∷ (true, codes "b") ∷ []) ([] ∷ (0 ∷ []) ∷ (1 ∷ []) ∷ (0 ∷ 1 ∷ []) ∷ []) refl (held-meaning holding) (held-moves holding) (holding_rules holding) (λ s. automaton s.table) HeldBegins (λ A s b. b.minimised) (λ s. refl) going_back (2 ∷ []) 3 false (λ A B c m.
+  child_below_run = path_reads abc ((false, codes "a") ∷ (true, codes "b") ∷ []) ([] ∷ (0 ∷ []) ∷ (1 ∷ []) ∷ (0 ∷ 1 ∷ []) ∷ []) refl (held_meaning holding) (held_moves holding) (holding_rules holding) (λ s. automaton s.table) HeldBegins (λ A s b. b.minimised) (λ s. refl) going_back (2 ∷ []) 3 false (λ A B c m.
       let at = accepts_by abc ((false, codes "a") ∷ (true, codes "b") ∷ []) ([] ∷ (0 ∷ []) ∷ (1 ∷ []) ∷ (0 ∷ 1 ∷ []) ∷ []) (refl, refl) (record { some = refl; start = refl; inside = refl; next = refl; all = refl }) (omega arith) A B c m in
       back_booked (accepts B) (at (0 ∷ []) refl) (at (0 ∷ 0 ∷ []) refl) (at (0 ∷ 1 ∷ []) refl));
-  child_child_run = path_reads abc ((false, codes "a") ∷ (false, codes "b") ∷ []) ([] ∷ (0 ∷ []) ∷ (1 ∷ []) ∷ (0 ∷ 1 ∷ []) ∷ []) refl (noted-meaning noting) (noted-moves noting) (noting_rules noting) (λ s. automaton s.table) NotedBegins (λ A s b. b.minimised) (λ s. refl) between (2 ∷ 4 ∷ []) 5 true (λ A B c m.
+  child_child_run = path_reads abc ((false, codes "a") ∷ (false, codes "b") ∷ []) ([] ∷ (0 ∷ []) ∷ (1 ∷ []) ∷ (0 ∷ 1 ∷ []) ∷ []) refl (noted_meaning noting) (noted_moves noting) (noting_rules noting) (λ s. automaton s.table) NotedBegins (λ A s b. b.minimised) (λ s. refl) between (2 ∷ 4 ∷ []) 5 true (λ A B c m.
       let at = accepts_by abc ((false, codes "a") ∷ (false, codes "b") ∷ []) ([] ∷ (0 ∷ []) ∷ (1 ∷ []) ∷ (0 ∷ 1 ∷ []) ∷ []) (refl, refl) (record { some = refl; start = refl; inside = refl; next = refl; all = refl }) (omega arith) A B c m in
       between_booked (accepts B) (at (0 ∷ []) refl) (at (0 ∷ 2 ∷ []) refl) (at (0 ∷ 1 ∷ []) refl) (at (0 ∷ 1 ∷ 2 ∷ []) refl));
   turning_table = turning_graded;

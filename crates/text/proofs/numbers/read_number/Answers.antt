@@ -2,8 +2,8 @@ use Rattle.std.proofs.Common.{arith, rules}
 use Rattle.text.proofs.Decimal.{written, read_small, read_more, read_all, read_decimal}
 use Rattle.text.proofs.numbers.read_number.Goals as goal
 
-pub returns-then-is-empty : goal.returns-then-is-empty
-returns-then-is-empty c n small e = let w = written _ n small e in search rules
+pub returns-then-is_empty : goal.returns-then-is_empty
+returns-then-is_empty c n small e = let w = written _ n small e in search rules
 
 pub returns-then-field-gt1 : goal.returns-then-field-gt1
 returns-then-field-gt1 c n small e = let w = written _ n small e in search rules
@@ -11,12 +11,12 @@ returns-then-field-gt1 c n small e = let w = written _ n small e in search rules
 pub returns-then-b-lt48 : goal.returns-then-b-lt48
 returns-then-b-lt48 c n small e = let w = written _ n small e in search rules
 
-pub overflow-mul-n : goal.overflow-mul-n
-overflow-mul-n c =
+pub overflow_mul-n : goal.overflow_mul-n
+overflow_mul-n c =
     omega (arith, read_small c.args.field.now _ _ c.if-field-gt3.false c.loop-b-test.true c.loop-b.invariant)
 
-pub overflow-add-n : goal.overflow-add-n
-overflow-add-n c =
+pub overflow_add-n : goal.overflow_add-n
+overflow_add-n c =
     omega (arith, read_small c.args.field.now _ _ c.if-field-gt3.false c.loop-b-test.true c.loop-b.invariant)
 
 pub loop-b-preserved : goal.loop-b-preserved

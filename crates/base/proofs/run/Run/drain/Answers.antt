@@ -17,7 +17,7 @@ loop-tag-preserved-in-Some g c =
 pub loop-tag-preserved : goal.loop-tag-preserved
 loop-tag-preserved g c =
     let gave = c.in-Tag.ensures in
-    more_passed g.S.Selector.meaning g.S.Selector.moves _ _ c.in-Ok.did _ c.loop-tag.invariant gave.given gave.left c.in-Ok.ensures (sym c.picked.ensures ∙ ap option_to_list c.in-default.is)
+    more_passed g.S.Selector.meaning g.S.Selector.moves _ _ c.in-Ok.did _ c.loop-tag.invariant gave.given gave.left c.in-Ok.ensures (sym c.picked.ensures ∙ ap option_to_list c.in_default.is)
 
 pub returns-in-Err : goal.returns-in-Err
 returns-in-Err g c =

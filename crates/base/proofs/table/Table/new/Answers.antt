@@ -5,8 +5,8 @@ use Rattle.base.specs.Tables.{rows_each_below}
 use Rattle.base.proofs.Every.{rows_inside}
 use Rattle.base.proofs.table.Table.new.Goals as goal
 
-pub invariant-of-result : goal.invariant-of-result
-invariant-of-result c =
+pub invariant_of-result : goal.invariant_of-result
+invariant_of-result c =
     let some : 1 ≤ c.args.states = omega arith in
-    let rows = sym (c.if-not-rows-below.ensures ∙ ap (λ n. rows_each_below c.args.labels c.args.states (take n c.args.targets)) (sub-zero c.args.states)) in
-    ((omega arith, omega arith, some, omega arith, omega arith), (rows_inside c.args.labels c.args.states c.args.targets some rows, tt))
+    let rows = sym (c.if-not-rows_below.ensures ∙ ap (λ n. rows_each_below c.args.labels c.args.states (take n c.args.targets)) (sub-zero c.args.states)) in
+    record { sized = (omega arith, omega arith, some, omega arith, omega arith); closed = rows_inside c.args.labels c.args.states c.args.targets some rows }

@@ -27,23 +27,23 @@ loop-at-preserved c =
     one_read names text c.loop-at.at c.loop-at.count c.loop-at.steps c.in-Some.step c.in-Some.taken _ c.loop-at.invariant
     (subst (λ x. First names x c.in-Some.step c.in-Some.taken) (take_rest text c.loop-at.at) c.in-Some.ensures) c.store.array_long c.store.ensures
 
-pub returns-then-is-empty : goal.returns-then-is-empty
-returns-then-is-empty c = bad_length (λ h. ⊎_elim
-    (λ empty. omega (arith, h.0, eqb-true _ 0 (sym c.is-empty.ensures ∙ empty)))
-    (λ (long : (c.is-empty.result ≡ false) × (200 < length c.args.text.now)). omega (arith, h.1, long.1))
-    c.then-is-empty.either)
+pub returns-then-is_empty : goal.returns-then-is_empty
+returns-then-is_empty c = bad_length (λ h. ⊎_elim
+    (λ empty. omega (arith, h.0, eqb-true _ 0 (sym c.is_empty.ensures ∙ empty)))
+    (λ (long : (c.is_empty.result ≡ false) × (200 < length c.args.text.now)). omega (arith, h.1, long.1))
+    c.then-is_empty.either)
 
-pub returns-in-default : goal.returns-in-default
-returns-in-default c =
+pub returns-in_default : goal.returns-in_default
+returns-in_default c =
     let text = c.args.text.now in
     let names = names_of c.args.labels.now in
-    not_read names text c.loop-at.at c.loop-at.count c.loop-at.steps c.loop-at.invariant (sized_by c.args.text.now c.if-is-empty.ensures c.if-text-gt-MAX-TEXT.false) (subst (Unread names) (take_rest text c.loop-at.at) c.in-default.ensures)
+    not_read names text c.loop-at.at c.loop-at.count c.loop-at.steps c.loop-at.invariant (sized_by c.args.text.now c.if-is_empty.ensures c.if-text-gt-MAX_TEXT.false) (subst (Unread names) (take_rest text c.loop-at.at) c.in_default.ensures)
 
-pub returns-then-count-gt-MAX-STEPS : goal.returns-then-count-gt-MAX-STEPS
-returns-then-count-gt-MAX-STEPS c = many_read (names_of c.args.labels.now) c.args.text.now c.loop-at.at c.loop-at.count c.loop-at.steps c.loop-at.invariant c.loop-at-test.false (sized_by c.args.text.now c.if-is-empty.ensures c.if-text-gt-MAX-TEXT.false) (omega arith)
+pub returns-then-count-gt-MAX_STEPS : goal.returns-then-count-gt-MAX_STEPS
+returns-then-count-gt-MAX_STEPS c = many_read (names_of c.args.labels.now) c.args.text.now c.loop-at.at c.loop-at.count c.loop-at.steps c.loop-at.invariant c.loop-at-test.false (sized_by c.args.text.now c.if-is_empty.ensures c.if-text-gt-MAX_TEXT.false) (omega arith)
 
-pub invariant-of-result : goal.invariant-of-result
-invariant-of-result c = ((read_whole c.args.labels.now c.args.text.now c.loop-at.at c.loop-at.count c.loop-at.steps c.loop-at.invariant c.loop-at-test.false (sized_by c.args.text.now c.if-is-empty.ensures c.if-text-gt-MAX-TEXT.false) c.if-count-gt-MAX-STEPS.false).0, (c.if-count-gt-MAX-STEPS.false, tt))
+pub invariant_of-result : goal.invariant_of-result
+invariant_of-result c = record { some = (read_whole c.args.labels.now c.args.text.now c.loop-at.at c.loop-at.count c.loop-at.steps c.loop-at.invariant c.loop-at-test.false (sized_by c.args.text.now c.if-is_empty.ensures c.if-text-gt-MAX_TEXT.false) c.if-count-gt-MAX_STEPS.false).0; fits = c.if-count-gt-MAX_STEPS.false }
 
 pub returns : goal.returns
-returns c = (read_whole c.args.labels.now c.args.text.now c.loop-at.at c.loop-at.count c.loop-at.steps c.loop-at.invariant c.loop-at-test.false (sized_by c.args.text.now c.if-is-empty.ensures c.if-text-gt-MAX-TEXT.false) c.if-count-gt-MAX-STEPS.false).1
+returns c = (read_whole c.args.labels.now c.args.text.now c.loop-at.at c.loop-at.count c.loop-at.steps c.loop-at.invariant c.loop-at-test.false (sized_by c.args.text.now c.if-is_empty.ensures c.if-text-gt-MAX_TEXT.false) c.if-count-gt-MAX_STEPS.false).1

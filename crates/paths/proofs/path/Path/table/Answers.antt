@@ -21,8 +21,8 @@ few_labels l n e = (omega (arith, l.counted, l.some), omega (arith, l.counted, l
 pub targets-requires : goal.targets-requires
 targets-requires c = (few_steps c.args.self.now _ c.steps-steps.ensures, ((few_labels c.args.labels.now _ c.count-labels.ensures).1, c.new-sets.ensures))
 
-pub returns-in-default : goal.returns-in-default
-returns-in-default c = many_sets (subst (λ s. MoreThan 32 s (length (names_of c.args.labels.now))) c.steps-steps.ensures (subst (MoreThan 32 c.steps-steps.result.now) c.count-labels.ensures c.in-default.ensures))
+pub returns-in_default : goal.returns-in_default
+returns-in_default c = many_sets (subst (λ s. MoreThan 32 s (length (names_of c.args.labels.now))) c.steps-steps.ensures (subst (MoreThan 32 c.steps-steps.result.now) c.count-labels.ensures c.in_default.ensures))
 
 pub accepting-yes-requires : goal.accepting-yes-requires
 accepting-yes-requires c = omega (arith, few_steps c.args.self.now _ c.steps-steps.ensures)

@@ -11,7 +11,7 @@ returns-then-eq c =
     let l = c.args.self.now in
     let i = c.loop-i.i in
     let read = stored_at l.count l.names i c.index-self-i.result (search rules) in
-    let same = slice_eq-Decides Decides-eqb _ _ _ c.eq.ensures in
+    let same = slice_eq-Decides Decides-eqb c.as_bytes.result.now c.args.name.now _ c.eq.ensures in
     let low : Lowest (names_of l) c.args.name.now (Some i) = search rules in
     record { place = place_lowest (names_of l) c.args.name.now (Some i) low; lowest = low }
 
@@ -19,7 +19,7 @@ pub loop-i-preserved : goal.loop-i-preserved
 loop-i-preserved c =
     let l = c.args.self.now in
     let read = stored_at l.count l.names c.loop-i.i c.index-self-i.result (search rules) in
-    let same = slice_eq-Decides Decides-eqb _ _ _ c.eq.ensures in
+    let same = slice_eq-Decides Decides-eqb c.as_bytes.result.now c.args.name.now _ c.eq.ensures in
     search rules
 
 pub returns : goal.returns

@@ -4,8 +4,8 @@ use Rattle.text.specs.Labelled.{names_of}
 use Rattle.base.proofs.Giving.{lines_end, lines_tag, lines_fault}
 use Rattle.base.proofs.lines.next.LineSourceTagSource.next.Goals as goal
 
-pub returns-then-is-empty : goal.returns-then-is-empty
-returns-then-is-empty c =
+pub returns-then-is_empty : goal.returns-then-is_empty
+returns-then-is_empty c =
     let s = c.args.self.now in
     let none : length s.text.now ≤ 0 = search rules in
     lines_end (names_of s.labels.now) s.line s.text.now none

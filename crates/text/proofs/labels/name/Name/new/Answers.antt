@@ -7,10 +7,10 @@ use Rattle.text.proofs.labels.name.Name.new.Goals as goal
 front : (part rest name : List ℕ) → part ≡ name → take (length name) (part ++ rest) ≡ name
 front part rest name e = take_at part rest (length name) (ap length e) ∙ e
 
-pub invariant-of-result : goal.invariant-of-result
-invariant-of-result c =
+pub invariant_of-result : goal.invariant_of-result
+invariant_of-result c =
     let long = (and_parts _ _ (and_parts _ _ c.requires).0).1 in
-    (leb-true _ _ long, (ap is_name (front _ _ _ c.copy-from-slice.ensures.after) ∙ c.requires, tt))
+    record { fits = leb-true _ _ long; rule = ap is_name (front _ _ _ c.copy_from_slice.ensures.after) ∙ c.requires }
 
 pub returns : goal.returns
-returns c = front _ _ _ c.copy-from-slice.ensures.after
+returns c = front _ _ _ c.copy_from_slice.ensures.after
