@@ -47,7 +47,7 @@ fn read_with<'a, T: TagSource>(
     source: &mut T,
     picks: &mut [u32],
 ) -> Reading
-    ensures { StackRuns (automaton table.now) stack.old limit (holds source.old) picks.old picks.new result }
+    ensures { StackRuns (automaton table.now) stack.old limit (T.holds source.old) picks.old picks.new result }
 {
     read(
         table,
@@ -66,7 +66,7 @@ fn read<S: Selector + Drop, T: TagSource>(
     source: &mut T,
     picks: &mut [u32],
 ) -> Reading
-    ensures { Runs meaning moves selector limit (holds source.old) picks.old picks.new result }
+    ensures { Runs S.meaning S.moves selector limit (T.holds source.old) picks.old picks.new result }
 {
     let Begun { graded: _, mut run } = begin(table, selector, limit);
     let drained = run.drain(source, picks);

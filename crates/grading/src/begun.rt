@@ -15,7 +15,7 @@ pub struct Begun<S> {
 
 /// Grades the table of a query, and begins a run of the selector that was chosen for it.
 pub fn begin<S: Selector>(table: &Table, selector: S, limit: u32) -> Begun<S>
-    ensures { MainPromise meaning moves selector limit (automaton table.now) result.graded result.run }
+    ensures { MainPromise S.meaning S.moves selector limit (automaton table.now) result.graded result.run }
 {
     Begun {
         graded: Graded::of(table),

@@ -22,7 +22,7 @@ pub struct Distances {
 impl Distances {
     /// Measures in rounds: each gives the next distance to the pairs without one that a label leads to a pair at the last.
     pub fn of<S: Seeds>(table: &Table, seeds: &S) -> Distances
-        ensures { Measures (automaton table.now) (S.Seeds.wanted seeds.now) result }
+        ensures { Measures (automaton table.now) (S.wanted seeds.now) result }
     {
         let mut all = Distances {
             steps: seeded(table.states(), seeds),
@@ -100,7 +100,7 @@ impl Distances {
 // The distances of the wanted pairs whose first state is below the count.
 fn seeded<S: Seeds>(states: u8, seeds: &S) -> [[u16; 32]; 32]
     requires { states ≤ 32 }
-    ensures { (p : ℕ) → p < states → Marks (S.Seeds.wanted seeds.now p) (slice_index_or result p []) }
+    ensures { (p : ℕ) → p < states → Marks (S.wanted seeds.now p) (slice_index_or result p []) }
 {
     let mut rows = [[NONE; 32]; 32];
     for first in 0..states {

@@ -12,7 +12,7 @@ use base::table::Table;
 /// Finds the pairs from which moves by the table's labels lead to a wanted pair of its states. Going back from the wanted
 /// pairs, it visits the predecessors of each pair that it finds, and those once.
 pub fn spread<M: Moves, S: Seeds>(table: &Table, moves: &M, seeds: &S) -> Pairs
-    ensures { Spreads (automaton table.now).labels (M.Moves.goes moves.now) (Below (automaton table.now).states (S.Seeds.wanted seeds.now)) result }
+    ensures { Spreads (automaton table.now).labels (M.goes moves.now) (Below (automaton table.now).states (S.wanted seeds.now)) result }
 {
     let mut places = [Pair {
         first: 0,

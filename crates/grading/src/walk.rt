@@ -15,8 +15,8 @@ use base::table::Table;
 /// label is the lowest of those that leave the least distance.
 pub fn shortest<S: Seeds>(table: &Table, seeds: &S, mut pair: Pair) -> Word
     requires first_bound { (pair.first < (automaton table.now).states) × (pair.second < (automaton table.now).states) }
-    requires brought { Brought (automaton table.now) (S.Seeds.wanted seeds.now) pair.first pair.second }
-    ensures { Shortest (automaton table.now).labels (Brings (automaton table.now) (S.Seeds.wanted seeds.now) pair.first pair.second) (labels_of result) }
+    requires brought { Brought (automaton table.now) (S.wanted seeds.now) pair.first pair.second }
+    ensures { Shortest (automaton table.now).labels (Brings (automaton table.now) (S.wanted seeds.now) pair.first pair.second) (labels_of result) }
 {
     let distances = Distances::of(table, seeds);
     let mut word = Word::empty();

@@ -51,7 +51,7 @@ impl Worklist<'_> {
     /// Visits the wanted pairs whose first state is below the count.
     pub fn visit_seeds<S: Seeds>(&mut self, states: u8, seeds: &S)
         requires { (Room self.old) × (states ≤ 32) }
-        ensures { Visits (Below states (S.Seeds.wanted seeds.now)) self.old self.new }
+        ensures { Visits (Below states (S.wanted seeds.now)) self.old self.new }
     {
         for first in 0..states {
             self.visit_row(first, seeds.row(first));
@@ -61,7 +61,7 @@ impl Worklist<'_> {
     /// Visits the pairs from which a label below the count leads to the pair.
     pub fn visit_before<M: Moves>(&mut self, labels: u8, moves: &M, pair: Pair)
         requires { (Room self.old) × ((labels ≤ 16) × ((pair.first < 32) × (pair.second < 32))) }
-        ensures { Visits (Among labels (λ a p q. M.Moves.goes moves.now a p q pair.first pair.second)) self.old self.new }
+        ensures { Visits (Among labels (λ a p q. M.goes moves.now a p q pair.first pair.second)) self.old self.new }
     {
         for label in 0..labels {
             self.visit_product(moves.before(label, pair));

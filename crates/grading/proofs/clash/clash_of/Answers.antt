@@ -10,34 +10,34 @@ pub shortest-requires : goal.shortest-requires
 shortest-requires c =
     let t = c.args.table.now in
     let A = automaton t in
-    let x = c.in-ok-pair.pair in
-    let k = c.in-ok-pair.ensures.clashing in
-    ((internal_below A (well_formed t) k.p_internal, internal_below A (well_formed t) k.q_internal), meet_brought A x.first x.second k.meet k.apart)
+    let x = c.in_ok-pair.pair in
+    let k = c.in_ok-pair.ensures.clashing in
+    (record { first_bound = (internal_below A (well_formed t) k.p_internal, internal_below A (well_formed t) k.q_internal); brought = meet_brought A x.first x.second k.meet k.apart })
 
 pub shortest-requires-2 : goal.shortest-requires-2
 shortest-requires-2 c =
     let t = c.args.table.now in
     let A = automaton t in
-    let x = c.in-ok-pair.pair in
-    let k = c.in-ok-pair.ensures.clashing in
+    let x = c.in_ok-pair.pair in
+    let k = c.in_ok-pair.ensures.clashing in
     let l = internal_below A (well_formed t) k.p_internal in
     let m = internal_below A (well_formed t) k.q_internal in
-    ((l, m), apart_brought A x.first x.second (well_formed t) l m c.of-2.result.yes c.of-2.result.no c.of-2.ensures.0 c.of-2.ensures.1 k.apart)
+    (record { first_bound = (l, m); brought = apart_brought A x.first x.second (well_formed t) l m c.of-2.result.yes c.of-2.result.no c.of-2.ensures.0 c.of-2.ensures.1 k.apart })
 
 pub returns : goal.returns
 returns c =
     let t = c.args.table.now in
     let A = automaton t in
-    let x = c.in-ok-pair.pair in
-    let low = c.in-ok-pair.ensures in
+    let x = c.in_ok-pair.pair in
+    let low = c.in_ok-pair.ensures in
     let l = internal_below A (well_formed t) low.clashing.p_internal in
     let m = internal_below A (well_formed t) low.clashing.q_internal in
     record {
       p = x.first;
       q = x.second;
       lowest = low;
-      first = c.word-to.ensures;
-      second = c.word-to-2.ensures;
+      first = c.word_to.ensures;
+      second = c.word_to-2.ensures;
       meet = meet_shortest A x.first x.second (labels_of c.shortest.result) c.shortest.ensures;
       apart = apart_shortest A x.first x.second (well_formed t) l m c.of-2.result.yes c.of-2.result.no c.of-2.ensures.0 c.of-2.ensures.1 (labels_of c.shortest-2.result) c.shortest-2.ensures;
     }

@@ -5,7 +5,7 @@ use Rattle.base.specs.Tables.{automaton}
 use Rattle.grading.specs.StateSets.{Gathers}
 use Rattle.grading.proofs.Gathering.{gathers_none, gathers_with, gathers_skip, gathers_at}
 use Rattle.grading.proofs.seeds.answering.Goals as goal
-use Rattle.grading.proofs.seeds.answering.Goals.{then-says-yes-answer, else-says-yes-answer}
+use Rattle.grading.proofs.seeds.answering.Goals.{then-says_yes-answer, else-says_yes-answer}
 
 same : (x y : Bool) → beq x y ≡ true → x ≡ y
 same true true e = refl
@@ -27,9 +27,9 @@ pub loop-state-preserved : goal.loop-state-preserved
 loop-state-preserved c =
     let P : ℕ → Type 0 = λ p. (automaton c.args.table.now).yes p ≡ c.args.answer in
     let n = c.loop-state.state in
-    elim c.if-says-yes-answer.branch [
-      | then-says-yes-answer w ↦ subst (Gathers P (n + 1)) (sym w.set-is) (gathers_with P n c.loop-state.set w.with-set.result (sym c.says-yes.ensures ∙ same c.says-yes.result c.args.answer w.if-says-yes-answer.true) w.with-set.ensures c.loop-state.invariant)
-      | else-says-yes-answer w ↦ subst (Gathers P (n + 1)) (sym w.set-is) (gathers_skip P n c.loop-state.set (λ e. other c.says-yes.result c.args.answer w.if-says-yes-answer.false (c.says-yes.ensures ∙ e)) c.loop-state.invariant)
+    elim c.if-says_yes-answer.branch [
+      | then-says_yes-answer w ↦ subst (Gathers P (n + 1)) (sym w.set-is) (gathers_with P n c.loop-state.set w.with-set.result (sym c.says_yes.ensures ∙ same c.says_yes.result c.args.answer w.if-says_yes-answer.true) w.with-set.ensures c.loop-state.invariant)
+      | else-says_yes-answer w ↦ subst (Gathers P (n + 1)) (sym w.set-is) (gathers_skip P n c.loop-state.set (λ e. other c.says_yes.result c.args.answer w.if-says_yes-answer.false (c.says_yes.ensures ∙ e)) c.loop-state.invariant)
     ]
 
 pub returns : goal.returns

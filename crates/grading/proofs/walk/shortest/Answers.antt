@@ -10,22 +10,22 @@ pub loop-pair-init : goal.loop-pair-init
 loop-pair-init g c =
     let t = c.args.table.now in
     let w = c.empty-word.result in
-    walked_none (automaton t) (well_formed t) (g.S.Seeds.wanted c.args.seeds.now) c.of-distances.result c.of-distances.ensures c.args.pair.first c.args.pair.second (labels_of w) w.len c.requires.0.0 c.requires.0.1 c.requires.1 c.empty-word.ensures.0 c.empty-word.ensures.1
+    walked_none (automaton t) (well_formed t) (g.S.Seeds.wanted c.args.seeds.now) c.of-distances.result c.of-distances.ensures c.args.pair.first c.args.pair.second (labels_of w) w.len c.requires.first_bound.0 c.requires.first_bound.1 c.requires.brought c.empty-word.ensures.0 c.empty-word.ensures.1
 
 pub returns-then-get-eq0 : goal.returns-then-get-eq0
 returns-then-get-eq0 g c =
     let t = c.args.table.now in
     let u = c.loop-pair.word in
     let here = c.loop-pair.pair in
-    let next = c.step-both-pair.result in
-    walked_all (automaton t) (well_formed t) (g.S.Seeds.wanted c.args.seeds.now) c.of-distances.result c.of-distances.ensures c.args.pair.first c.args.pair.second (labels_of u) u.len here.first here.second c.best-label-label.result c.loop-pair.invariant c.best-label-label.ensures
-    next.first next.second c.step-both-pair.ensures.0 c.step-both-pair.ensures.1 (labels_of c.push.new.self) c.push.ensures.labels c.requires.0.0 c.requires.0.1 (omega (arith, c.get.ensures))
+    let next = c.step_both-pair.result in
+    walked_all (automaton t) (well_formed t) (g.S.Seeds.wanted c.args.seeds.now) c.of-distances.result c.of-distances.ensures c.args.pair.first c.args.pair.second (labels_of u) u.len here.first here.second c.best_label-label.result c.loop-pair.invariant c.best_label-label.ensures
+    next.first next.second c.step_both-pair.ensures.0 c.step_both-pair.ensures.1 (labels_of c.push.new.self) c.push.ensures.labels c.requires.first_bound.0 c.requires.first_bound.1 (omega (arith, c.get.ensures))
 
 pub loop-pair-preserved : goal.loop-pair-preserved
 loop-pair-preserved g c =
     let t = c.args.table.now in
     let u = c.loop-pair.word in
     let here = c.loop-pair.pair in
-    let next = c.step-both-pair.result in
-    walked_more (automaton t) (well_formed t) (g.S.Seeds.wanted c.args.seeds.now) c.of-distances.result c.of-distances.ensures c.args.pair.first c.args.pair.second (labels_of u) u.len here.first here.second c.best-label-label.result c.loop-pair.invariant c.best-label-label.ensures
-    next.first next.second c.step-both-pair.ensures.0 c.step-both-pair.ensures.1 (labels_of c.push.new.self) c.push.ensures.labels (λ z. c.if-get-eq0.false (omega (arith, c.get.ensures))) c.push.new.self.len c.push.ensures.len
+    let next = c.step_both-pair.result in
+    walked_more (automaton t) (well_formed t) (g.S.Seeds.wanted c.args.seeds.now) c.of-distances.result c.of-distances.ensures c.args.pair.first c.args.pair.second (labels_of u) u.len here.first here.second c.best_label-label.result c.loop-pair.invariant c.best_label-label.ensures
+    next.first next.second c.step_both-pair.ensures.0 c.step_both-pair.ensures.1 (labels_of c.push.new.self) c.push.ensures.labels (λ z. c.if-get-eq0.false (omega (arith, c.get.ensures))) c.push.new.self.len c.push.ensures.len

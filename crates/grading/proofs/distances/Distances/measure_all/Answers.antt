@@ -17,7 +17,7 @@ pub loop-first-preserved : goal.loop-first-preserved
 loop-first-preserved c =
     let t = c.args.table.now in
     let n = c.loop-first.first in
-    round_more (automaton t) c.args.steps c.requires (well_formed t) (λ p _. p < n) (λ p _. p ≡ n) (λ p _. p < n + 1) c.args.self.now c.loop-first.self c.measure-row.new.self c.loop-first.invariant c.measure-row.ensures (λ p q _ _ l. next n p l (ℕ_discrete p n))
+    round_more (automaton t) c.args.steps c.requires (well_formed t) (λ p _. p < n) (λ p _. p ≡ n) (λ p _. p < n + 1) c.args.self.now c.loop-first.self c.measure_row.new.self c.loop-first.invariant c.measure_row.ensures (λ p q _ _ l. next n p l (ℕ_discrete p n))
 
 pub returns : goal.returns
 returns c = round_within (automaton c.args.table.now) c.args.steps c.requires (λ p _. p < c.loop-first.first) (λ p _. p < (automaton c.args.table.now).states) c.args.self.now c.loop-first.self (λ p q _ _ l. omega arith) c.loop-first.invariant

@@ -19,9 +19,9 @@ loop-steps-preserved g c =
     let wanted = g.S.Seeds.wanted c.args.seeds.now in
     let k = c.loop-steps.steps in
     let d = c.loop-steps.all in
-    let e = c.measure-all.new.self in
+    let e = c.measure_all.new.self in
     let top : d.most ≡ k = omega arith in
-    (measured_more A wanted (well_formed t) k d e c.loop-steps.invariant.0 top c.measure-all.ensures, most_next A wanted (well_formed t) k d e c.loop-steps.invariant.0 top c.measure-all.ensures)
+    (measured_more A wanted (well_formed t) k d e c.loop-steps.invariant.0 top c.measure_all.ensures, most_next A wanted (well_formed t) k d e c.loop-steps.invariant.0 top c.measure_all.ensures)
 
 pub returns : goal.returns
 returns g c =

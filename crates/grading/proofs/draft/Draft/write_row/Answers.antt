@@ -7,7 +7,7 @@ use Rattle.grading.proofs.Drafting.{drafted_free, drafted_more, drafted_row}
 use Rattle.grading.proofs.draft.Draft.write_row.Goals as goal
 
 pub loop-label-init : goal.loop-label-init
-loop-label-init c = (subst (Drafted (automaton c.args.table.now) c.args.self.now) (sym (add-zero (16 * c.args.number))) c.requires.1.1, c.requires.1.0)
+loop-label-init c = (subst (Drafted (automaton c.args.table.now) c.args.self.now) (sym (add-zero (16 * c.args.number))) c.requires.number_lt_count.1, c.requires.number_lt_count.0)
 
 pub name-name-requires : goal.name-name-requires
 name-name-requires c =
@@ -15,14 +15,14 @@ name-name-requires c =
     let d = c.loop-label.self in
     let h = c.loop-label.invariant.0 in
     let below : c.step-target.result < t.states = subst (λ y. y < t.states) (sym c.step-target.ensures) (t.closed (olds d c.args.number) c.loop-label.label (h.building.below c.args.number c.loop-label.invariant.1) (omega arith)) in
-    (omega (arith, t.sized.3), drafted_free t c.args.differ.now c.requires.0 d (16 * c.args.number + c.loop-label.label) c.step-target.result h below)
+    (omega (arith, t.sized.3), drafted_free t c.args.differ.now c.requires.agrees d (16 * c.args.number + c.loop-label.label) c.step-target.result h below)
 
 pub loop-label-preserved : goal.loop-label-preserved
 loop-label-preserved c =
     let e = c.name-name.new.self in
     let tall : c.args.number < length e.targets = search rules in
     let wide : c.loop-label.label < length (get_or e.targets c.args.number []) = search (rules, Below-row) in
-    drafted_more c.args.table.now c.args.differ.now c.requires.0 c.loop-label.self e c.args.number c.loop-label.label c.step-target.result c.name-name.result c.loop-label.invariant.0 c.loop-label.invariant.1 (omega arith) c.step-target.ensures tall wide c.name-name.ensures
+    drafted_more c.args.table.now c.args.differ.now c.requires.agrees c.loop-label.self e c.args.number c.loop-label.label c.step-target.result c.name-name.result c.loop-label.invariant.0 c.loop-label.invariant.1 (omega arith) c.step-target.ensures tall wide c.name-name.ensures
 
 pub returns : goal.returns
 returns c = drafted_row c.args.table.now c.loop-label.self c.args.number c.loop-label.label (omega arith) c.loop-label.invariant.1 c.loop-label.invariant.0

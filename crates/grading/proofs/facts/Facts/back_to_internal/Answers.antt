@@ -12,8 +12,8 @@ loop-state-preserved c =
     let A = automaton t in
     let p = c.loop-state.state in
     let rows = c.loop-state.targets in
-    let row = c.back-from.result in (
-      retraced_more A (Before A) p rows row (omega (arith, t.sized.3, c.loop-state.invariant.1)) (row_internal A (well_formed t) c.internal-internal.result p row c.internal-internal.ensures c.back-from.ensures) c.loop-state.invariant.0,
+    let row = c.back_from.result in (
+      retraced_more A (Before A) p rows row (omega (arith, t.sized.3, c.loop-state.invariant.1)) (row_internal A (well_formed t) c.internal-internal.result p row c.internal-internal.ensures c.back_from.ensures) c.loop-state.invariant.0,
       length-set rows p row ∙ c.loop-state.invariant.1,
     )
 

@@ -7,4 +7,4 @@ pub unreachable-requires : goal.unreachable-requires
 unreachable-requires c = absurd (not_none (automaton c.args.table.now) c.args.state c.component-component.result c.requires.1 c.component-component.ensures c.in-None.ensures.0)
 
 pub returns : goal.returns
-returns c = taken_numbers (automaton c.args.table.now) c.args.state c.component-component.result c.requires.1 c.component-component.ensures c.take-lowest.new.self c.in-Some.lowest c.in-Some.ensures
+returns c = taken_numbers (automaton c.args.table.now) c.args.state c.component-component.result c.requires.1 c.component-component.ensures c.take_lowest.new.self c.in-Some.lowest c.in-Some.ensures

@@ -5,7 +5,7 @@ use Rattle.automata.specs.Components.{Count, none, Lowest}
 use Rattle.base.specs.Tables.{automaton}
 use Rattle.grading.proofs.Counting.{count_has, count_lacks}
 use Rattle.grading.proofs.facts.Facts.components.Goals as goal
-use Rattle.grading.proofs.facts.Facts.components.Goals.{then-is-lowest, else-is-lowest}
+use Rattle.grading.proofs.facts.Facts.components.Goals.{then-is_lowest, else-is_lowest}
 
 pub loop-state-init : goal.loop-state-init
 loop-state-init c = (none, omega arith)
@@ -15,9 +15,9 @@ loop-state-preserved c =
     let P : ℕ → Type 0 = Lowest (automaton c.args.table.now) in
     let n = c.loop-state.state in
     let k = c.loop-state.count in
-    elim c.if-is-lowest.branch [
-      | then-is-lowest w ↦ subst (λ x. Count P (n + 1) x × (x ≤ n + 1)) (sym w.count-is) (count_has P n k (c.is-lowest.ensures.0 w.if-is-lowest.true) c.loop-state.invariant.0, omega (arith, c.loop-state.invariant.1))
-      | else-is-lowest w ↦ subst (λ x. Count P (n + 1) x × (x ≤ n + 1)) (sym w.count-is) (count_lacks P n k (not_from_Decides c.is-lowest.result c.is-lowest.ensures w.if-is-lowest.false) c.loop-state.invariant.0, omega (arith, c.loop-state.invariant.1))
+    elim c.if-is_lowest.branch [
+      | then-is_lowest w ↦ subst (λ x. Count P (n + 1) x × (x ≤ n + 1)) (sym w.count-is) (count_has P n k (c.is_lowest.ensures.0 w.if-is_lowest.true) c.loop-state.invariant.0, omega (arith, c.loop-state.invariant.1))
+      | else-is_lowest w ↦ subst (λ x. Count P (n + 1) x × (x ≤ n + 1)) (sym w.count-is) (count_lacks P n k (not_from_Decides c.is_lowest.result c.is_lowest.ensures w.if-is_lowest.false) c.loop-state.invariant.0, omega (arith, c.loop-state.invariant.1))
     ]
 
 pub returns : goal.returns

@@ -7,7 +7,7 @@ use Rattle.grading.proofs.grade.Graded.of.Goals as goal
 pub returns : goal.returns
 returns c = record {
   minimal = c.minimise-minimal.ensures.minimised;
-  graded = c.grade-by.ensures;
+  graded = c.grade_by.ensures;
   counted = c.components.ensures;
-  settled = settles (automaton c.args.table.now) (automaton c.minimise-minimal.result) c.minimise-minimal.ensures.minimised (well_formed c.minimise-minimal.result) c.of-facts.result c.of-facts.ensures c.grade-by.result c.grade-by.ensures;
+  settled = settles (automaton c.args.table.now) (automaton c.minimise-minimal.result) c.minimise-minimal.ensures.minimised (well_formed c.minimise-minimal.result) c.of-facts.result c.of-facts.ensures c.grade_by.result c.grade_by.ensures;
 }

@@ -7,8 +7,8 @@ use Rattle.grading.proofs.notes.Notes.push.Goals as goal
 pub bounds-self-self : goal.bounds-self-self
 bounds-self-self c = let s = c.args.self.now in omega (arith, held_length s.count s.places (omega arith))
 
-pub invariant-of-self : goal.invariant-of-self
-invariant-of-self c = let s = c.args.self.now in ((omega (arith, held_length s.count s.places (omega arith)), simp length-set (omega arith)), tt)
+pub invariant_of-self : goal.invariant_of-self
+invariant_of-self c = let s = c.args.self.now in record { within = (omega (arith, held_length s.count s.places (omega arith)), simp length-set (omega arith)) }
 
 pub returns : goal.returns
 returns c = let s = c.args.self.now in held_push s.count s.places c.args.note (omega (arith, held_length s.count s.places (omega arith)))

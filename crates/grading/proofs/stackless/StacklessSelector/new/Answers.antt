@@ -17,24 +17,24 @@ returns-then-not-stackless c =
     let k = c.stackless.ensures.1 c.if-not-stackless.true in
     (refl, record { minimal = B; minimised = m; graded = (clash_of_knot B m.minimal k, k) })
 
-pub overflow-sub-result : goal.overflow-sub-result
-overflow-sub-result c =
+pub overflow_sub-result : goal.overflow_sub-result
+overflow_sub-result c =
     let t = c.minimise-minimal.result in
-    some_component (automaton t) c.component-numbers.result c.components.result t.start c.component-numbers.ensures c.components.ensures t.sized.4
+    some_component (automaton t) c.component_numbers.result c.components.result t.start c.component_numbers.ensures c.components.ensures t.sized.4
 
-pub invariant-of-result : goal.invariant-of-result
-invariant-of-result c =
+pub invariant_of-result : goal.invariant_of-result
+invariant_of-result c =
     let t = c.minimise-minimal.result in
     let A = automaton t in
     let p = c.start.result in
     let k = c.components.result - 1 in
     let ns = held c.none.result in
-    let numbers = c.component-numbers.result in
+    let numbers = c.component_numbers.result in
     let serves : ∥ Serves A ∥₁ = ∣ record { formed = well_formed t; distinct = c.minimise-minimal.ensures.minimised.minimal.distinct; stackless = c.stackless.ensures.0 c.if-not-stackless.false } ∣₁ in
-    let numbered : ∥ Numbered A numbers ∥₁ = ∣ c.component-numbers.ensures ∣₁ in
-    let counted : ∥ Components A (k + 1) ∥₁ = ∣ components_again A numbers c.components.result t.start c.component-numbers.ensures c.components.ensures t.sized.4 ∣₁ in
+    let numbered : ∥ Numbered A numbers ∥₁ = ∣ c.component_numbers.ensures ∣₁ in
+    let counted : ∥ Components A (k + 1) ∥₁ = ∣ components_again A numbers c.components.result t.start c.component_numbers.ensures c.components.ensures t.sized.4 ∣₁ in
     let led : Led A ns p = led_none A ns p c.none.ensures (subst (λ x. x < A.states) (sym c.start.ensures) t.sized.4) in
-    (serves, (c.back-inside.ensures, (numbered, (counted, (led_below A ns p led, (led, (led_few A numbers k numbered counted ns p led, tt)))))))
+    record { serves = serves; retraces = c.back_inside.ensures; numbered = numbered; counted = counted; placed = led_below A ns p led; chained = led; bounded = led_few A numbers k numbered counted ns p led }
 
 pub returns : goal.returns
 returns c =
@@ -45,5 +45,5 @@ returns c =
       state = c.start.ensures;
       depth = refl;
       notes = c.none.ensures;
-      counted = components_again (automaton t) c.component-numbers.result c.components.result t.start c.component-numbers.ensures c.components.ensures t.sized.4;
+      counted = components_again (automaton t) c.component_numbers.result c.components.result t.start c.component_numbers.ensures c.components.ensures t.sized.4;
     }

@@ -28,8 +28,8 @@ taken m some h =
 pub returns-then-self-eq0 : goal.returns-then-self-eq0
 returns-then-self-eq0 c = (λ i e. omega (arith, sym (ap (λ m. digit m i) c.if-self-eq0.true ∙ digit_none i) ∙ e), refl)
 
-pub overflow-sub-self : goal.overflow-sub-self
-overflow-sub-self c =
+pub overflow_sub-self : goal.overflow_sub-self
+overflow_sub-self c =
     let m = c.args.self.now.mask in
     let l = lowest_digit 32 m (omega arith) (omega arith) in
     omega (arith, one_shl (count_trailing_zeros 32 m) 32 l.below, l.within)

@@ -5,8 +5,8 @@ use Rattle.base.specs.Tables.{automaton}
 use Rattle.grading.proofs.Retracing.{back_below}
 use Rattle.grading.proofs.registerless.moves.RegisterlessSelectorSelector.close.Goals as goal
 
-pub invariant-of-self : goal.invariant-of-self
-invariant-of-self c =
+pub invariant_of-self : goal.invariant_of-self
+invariant_of-self c =
     let s = c.args.self.now in
     let A = automaton s.table in
-    (subst (λ p. p < A.states) (sym c.get-self.ensures) (back_below A (Before A) s.backward s.retraces s.state c.args.label s.inside (omega arith)), (s.serves, (s.retraces, tt)))
+    record { inside = subst (λ p. p < A.states) (sym c.get-self.ensures) (back_below A (Before A) s.backward s.retraces s.state c.args.label s.inside (omega arith)); serves = s.serves; retraces = s.retraces }

@@ -8,8 +8,8 @@ use Rattle.grading.proofs.Chained.{Led, led_recalled, led_retraced, led_below, l
 use Rattle.grading.proofs.stackless.moves.StacklessSelectorSelector.close.Goals as goal
 use Rattle.grading.proofs.stackless.moves.StacklessSelectorSelector.close.Goals.{in-Some, in-None}
 
-pub invariant-of-self : goal.invariant-of-self
-invariant-of-self c =
+pub invariant_of-self : goal.invariant_of-self
+invariant_of-self c =
     let s = c.args.self.now in
     let A = automaton s.table in
     let p = c.match-recall.self in
@@ -19,4 +19,4 @@ invariant-of-self c =
       | in-Some w ↦ let h = w.in-Some.ensures in led_recalled A before ns (s.depth - 1) s.state p h.0 (w.self-is ∙ ap (λ n. n.state) h.1) h.2 s.chained
       | in-None w ↦ let h = w.in-None.ensures in led_retraced A before ns s.state p c.args.label h.1 (subst (λ x. ∥ Lowest (Before A s.state c.args.label) A.states s.state x ∥₁) (sym (w.self-is ∙ w.get-self.ensures)) (s.retraces s.state c.args.label s.placed (omega arith))) s.chained
     ] in
-    (s.serves, (s.retraces, (s.numbered, (s.counted, (led_below A ns p led, (led, (led_few A s.component s.needed s.numbered s.counted ns p led, tt)))))))
+    record { serves = s.serves; retraces = s.retraces; numbered = s.numbered; counted = s.counted; placed = led_below A ns p led; chained = led; bounded = led_few A s.component s.needed s.numbered s.counted ns p led }
