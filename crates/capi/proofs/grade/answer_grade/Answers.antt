@@ -11,6 +11,6 @@ pub returns : goal.returns
 returns c =
     let of = c.of-graded.ensures in
     let states = c.from-states.ensures ∙ c.states.ensures in
-    let notes = c.notes-needed-notes.ensures ∙ ap (notes_for c.of-graded.result.grade) c.from-components.ensures in
+    let notes = c.notes_needed-notes.ensures ∙ ap (notes_for c.of-graded.result.grade) c.from-components.ensures in
     graded c.in-Ok.table c.of-graded.result c.if-answer-lt-PLACES.false (sym c.in-Ok.is) (record { minimal = of.minimal; graded = of.graded; counted = of.counted; settled = of.settled }) refl
     (c.lay.ensures ∙ (λ i. laid (c.grade_number.ensures i ∷ states i ∷ c.from-components.ensures i ∷ notes i ∷ []) c.args.answer.now))

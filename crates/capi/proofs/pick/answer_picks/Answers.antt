@@ -12,4 +12,4 @@ returns-in-Err c =
 pub returns : goal.returns
 returns c =
     let both = c.in-Ok.both in
-    read c.in-Some.wanted both.0 both.1 c.if-totals-lt-PLACES.false (sym c.in-Some.ensures) c.in-Ok.ensures c.cause_number.ensures c.lay-totals.ensures
+    read c.in-Some.wanted both.0 both.1 c.if-totals-lt-PLACES.false (sym c.in-Some.ensures) c.in-Ok.ensures c.cause_number.ensures c.lay_totals.ensures

@@ -2,4 +2,4 @@
 use Rattle.capi.proofs.query.of_text.Goals as goal
 
 pub returns : goal.returns
-returns c = record { labels = c.in-ok-both.both.labels; accepted = c.in-ok-both.ensures }
+returns c = record { labels = c.in_ok-both.both.labels; accepted = c.in_ok-both.ensures }

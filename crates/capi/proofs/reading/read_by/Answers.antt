@@ -9,4 +9,4 @@ pub returns-in-Stackless : goal.returns-in-Stackless
 returns-in-Stackless c = read_stackless _ _ _ _ _ _ _ _ c.requires _ c.in-Stackless.is c.read-in-Stackless.ensures
 
 pub returns-in-Stack : goal.returns-in-Stack
-returns-in-Stack c = read_stack _ _ _ _ _ _ _ _ _ c.in-Stack.is c.read-with.auto.stack c.read-with.ensures
+returns-in-Stack c = read_stack _ _ _ _ _ _ _ _ _ c.in-Stack.is c.read_with.auto.stack c.read_with.ensures
