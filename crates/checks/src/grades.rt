@@ -58,10 +58,10 @@ fn a_minimal_table_has_no_idle_state(rt: HostRuntime) -> Result<(), Fail> {
 fn shown(table: &Table, first: u8, second: u8, meet: u8, apart: u8) -> bool {
     match clash_of(table) {
         Some(clash) => {
-            clash.first.labels() == [first]
-                && clash.second.labels() == [second]
-                && clash.meet.labels() == [meet]
-                && clash.apart.labels() == [apart]
+            clash.first.labels() == [first].as_slice()
+                && clash.second.labels() == [second].as_slice()
+                && clash.meet.labels() == [meet].as_slice()
+                && clash.apart.labels() == [apart].as_slice()
         }
         None => false,
     }
