@@ -10,8 +10,8 @@ mod stop;
 
 use crate::options::{Command, parse};
 use crate::stop::Stop;
-use anyhow::anyhow;
 use std::env;
+use std::process::ExitCode;
 
 const USAGE: &str =
     "usage: pintleapple pick --labels LABELS --path PATH [--packed] [--limit N] DOCUMENT
@@ -32,10 +32,10 @@ examples:
   pintleapple pick --table hold-air.table --packed roast.bin
 ";
 
-fn main(rt: HostRuntime) -> anyhow::Result<()> {
+fn main(rt: HostRuntime) -> anyhow::Result<ExitCode> {
     match run(&rt) {
-        Ok(true) => Ok(()),
-        Ok(false) | Err(Stop::Text(_)) => Err(anyhow!("refused")),
+        Ok(true) => Ok(ExitCode::SUCCESS),
+        Ok(false) | Err(Stop::Text(_)) => Ok(ExitCode::FAILURE),
         Err(Stop::System(error)) => Err(error),
     }
 }
