@@ -37,7 +37,7 @@ impl Draft {
     /// Writes the targets of one number.
     pub fn write_row(&mut self, table: &Table, differ: &Pairs, number: u8)
         requires agrees { Agrees (automaton table.now).states (Differ (automaton table.now)) differ.now }
-        requires number_lt_count { (number < self.now.count) × (Drafted (automaton table.now) self.now (16 * number)) }
+        requires drafted { (number < self.now.count) × (Drafted (automaton table.now) self.now (16 * number)) }
         ensures { Drafted (automaton table.now) self.exit.now (16 * (number + 1)) }
     {
         for label in 0..table.labels() {

@@ -35,7 +35,7 @@ impl Facts {
     /// Whether the two states are almost equivalent.
     pub fn almost(&self, table: &Table, first: u8, second: u8) -> bool
         requires known { Known (automaton table.now) self.now }
-        requires first_bound { (first < (automaton table.now).states) × (second < (automaton table.now).states) }
+        requires inside { (first < (automaton table.now).states) × (second < (automaton table.now).states) }
         ensures { Tells result (Almost (automaton table.now) first second) (Apart (automaton table.now) first second) }
     {
         for label in 0..table.labels() {

@@ -14,7 +14,7 @@ use base::table::Table;
 /// The shortest word of one label or more that leads both states to a wanted pair, and of those the first by its labels. Each
 /// label is the lowest of those that leave the least distance.
 pub fn shortest<S: Seeds>(table: &Table, seeds: &S, mut pair: Pair) -> Word
-    requires first_bound { (pair.first < (automaton table.now).states) × (pair.second < (automaton table.now).states) }
+    requires inside { (pair.first < (automaton table.now).states) × (pair.second < (automaton table.now).states) }
     requires brought { Brought (automaton table.now) (S.wanted seeds.now) pair.first pair.second }
     ensures { Shortest (automaton table.now).labels (Brings (automaton table.now) (S.wanted seeds.now) pair.first pair.second) (labels_of result) }
 {

@@ -12,7 +12,7 @@ shortest-requires c =
     let A = automaton t in
     let x = c.in_ok-pair.pair in
     let k = c.in_ok-pair.ensures.clashing in
-    (record { first_bound = (internal_below A (well_formed t) k.p_internal, internal_below A (well_formed t) k.q_internal); brought = meet_brought A x.first x.second k.meet k.apart })
+    (record { inside = (internal_below A (well_formed t) k.p_internal, internal_below A (well_formed t) k.q_internal); brought = meet_brought A x.first x.second k.meet k.apart })
 
 pub shortest-requires-2 : goal.shortest-requires-2
 shortest-requires-2 c =
@@ -22,7 +22,7 @@ shortest-requires-2 c =
     let k = c.in_ok-pair.ensures.clashing in
     let l = internal_below A (well_formed t) k.p_internal in
     let m = internal_below A (well_formed t) k.q_internal in
-    (record { first_bound = (l, m); brought = apart_brought A x.first x.second (well_formed t) l m c.of-2.result.yes c.of-2.result.no c.of-2.ensures.0 c.of-2.ensures.1 k.apart })
+    (record { inside = (l, m); brought = apart_brought A x.first x.second (well_formed t) l m c.of-2.result.yes c.of-2.result.no c.of-2.ensures.0 c.of-2.ensures.1 k.apart })
 
 pub returns : goal.returns
 returns c =

@@ -10,7 +10,7 @@ pub loop-pair-init : goal.loop-pair-init
 loop-pair-init g c =
     let t = c.args.table.now in
     let w = c.empty-word.result in
-    walked_none (automaton t) (well_formed t) (g.S.Seeds.wanted c.args.seeds.now) c.of-distances.result c.of-distances.ensures c.args.pair.first c.args.pair.second (labels_of w) w.len c.requires.first_bound.0 c.requires.first_bound.1 c.requires.brought c.empty-word.ensures.0 c.empty-word.ensures.1
+    walked_none (automaton t) (well_formed t) (g.S.Seeds.wanted c.args.seeds.now) c.of-distances.result c.of-distances.ensures c.args.pair.first c.args.pair.second (labels_of w) w.len c.requires.inside.0 c.requires.inside.1 c.requires.brought c.empty-word.ensures.0 c.empty-word.ensures.1
 
 pub returns-then-get-eq0 : goal.returns-then-get-eq0
 returns-then-get-eq0 g c =
@@ -19,7 +19,7 @@ returns-then-get-eq0 g c =
     let here = c.loop-pair.pair in
     let next = c.step_both-pair.result in
     walked_all (automaton t) (well_formed t) (g.S.Seeds.wanted c.args.seeds.now) c.of-distances.result c.of-distances.ensures c.args.pair.first c.args.pair.second (labels_of u) u.len here.first here.second c.best_label-label.result c.loop-pair.invariant c.best_label-label.ensures
-    next.first next.second c.step_both-pair.ensures.0 c.step_both-pair.ensures.1 (labels_of c.push.new.self) c.push.ensures.labels c.requires.first_bound.0 c.requires.first_bound.1 (omega (arith, c.get.ensures))
+    next.first next.second c.step_both-pair.ensures.0 c.step_both-pair.ensures.1 (labels_of c.push.new.self) c.push.ensures.labels c.requires.inside.0 c.requires.inside.1 (omega (arith, c.get.ensures))
 
 pub loop-pair-preserved : goal.loop-pair-preserved
 loop-pair-preserved g c =

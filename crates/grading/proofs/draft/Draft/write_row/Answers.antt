@@ -7,7 +7,7 @@ use Rattle.grading.proofs.Drafting.{drafted_free, drafted_more, drafted_row}
 use Rattle.grading.proofs.draft.Draft.write_row.Goals as goal
 
 pub loop-label-init : goal.loop-label-init
-loop-label-init c = (subst (Drafted (automaton c.args.table.now) c.args.self.now) (sym (add-zero (16 * c.args.number))) c.requires.number_lt_count.1, c.requires.number_lt_count.0)
+loop-label-init c = (subst (Drafted (automaton c.args.table.now) c.args.self.now) (sym (add-zero (16 * c.args.number))) c.requires.drafted.1, c.requires.drafted.0)
 
 pub name-name-requires : goal.name-name-requires
 name-name-requires c =

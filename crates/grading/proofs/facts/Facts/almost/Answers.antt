@@ -15,7 +15,7 @@ loop-label-preserved c =
     let m = c.args.self.now.differ in
     let a = c.loop-label.label in
     below_more (λ b. ¬ Differ A (A.step c.args.first b) (A.step c.args.second b)) a c.loop-label.invariant
-    (λ d. not_from_Decides c.has.result c.has.ensures c.if-has.false (subst (λ z. Has m z c.step-right.result) (sym c.step-left.ensures) (subst (Has m (A.step c.args.first a)) (sym c.step-right.ensures) ((c.requires.known.differ (A.step c.args.first a) (A.step c.args.second a)).1 (t.closed c.args.first a c.requires.first_bound.0 (omega arith), t.closed c.args.second a c.requires.first_bound.1 (omega arith), d)))))
+    (λ d. not_from_Decides c.has.result c.has.ensures c.if-has.false (subst (λ z. Has m z c.step-right.result) (sym c.step-left.ensures) (subst (Has m (A.step c.args.first a)) (sym c.step-right.ensures) ((c.requires.known.differ (A.step c.args.first a) (A.step c.args.second a)).1 (t.closed c.args.first a c.requires.inside.0 (omega arith), t.closed c.args.second a c.requires.inside.1 (omega arith), d)))))
 
 pub returns : goal.returns
 returns c = (λ _. almost_from_labels (automaton c.args.table.now) c.args.first c.args.second (λ a h. c.loop-label.invariant a (omega arith)), λ e. absurd (true≢false e))
