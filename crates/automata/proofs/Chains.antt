@@ -1,11 +1,10 @@
 -- A chain of notes is shorter than the number of components, and every move of a selector keeps it.
-use Rattle.std.proofs.Common.{◌≡◌, ℕ, zero, suc, ◌+◌, ◌-◌, ◌<◌, ◌≤◌, List, [], ◌∷◌, ◌++◌, length, get_or, sym, refl, ap, ◌∙◌, subst, ⊎_elim, arith}
+use Rattle.std.proofs.Common.{ℕ, zero, suc, ◌<◌, ◌≤◌, List, [], ◌∷◌, ◌++◌, length, sym, subst, ⊎_elim, arith}
 use mathlib.Core.Logic.{∥∥₁_elim, ∥∥₁_prop}
-use mathlib.Core.HLevel.{×_prop}
 use Rattle.std.proofs.lemmas.Bool.{cases_lt}
-use Rattle.automata.specs.Automata.{Automaton, WellFormed}
-use Rattle.automata.specs.States.{Reaches, Together}
-use Rattle.automata.specs.Noting.{Note, newest, older}
+use Rattle.automata.specs.Automata.{Automaton}
+use Rattle.automata.specs.States.{Together}
+use Rattle.automata.specs.Noting.{Note}
 use Rattle.automata.specs.Chains.{Representatives, Later, first_state, Chain}
 use Rattle.automata.proofs.Pigeonhole.{pigeonhole}
 use Rattle.automata.proofs.Together.{reaches_step, reaches_trans, together_sym, together_trans}

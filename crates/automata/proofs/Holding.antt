@@ -1,5 +1,5 @@
 -- A selector that holds one state of a registerless automaton keeps the rules of its meaning.
-use Rattle.std.proofs.Common.{◌≡◌, ℕ, ◌<◌, ◌≤◌, Bool, List, [], ◌∷◌, ◌++◌, sym, refl, ap, ◌∙◌, subst, inl, inr, ⊎_elim}
+use Rattle.std.proofs.Common.{◌≡◌, ℕ, ◌<◌, Bool, List, [], ◌∷◌, ◌++◌, sym, refl, ap, ◌∙◌, subst, ⊎_elim}
 use mathlib.Core.Logic.{∥∥₁_elim, ∥∥₁_prop}
 use mathlib.Core.Bool.{Bool-set}
 use native.Mathlib.Nat.{ℕ_set}
@@ -7,8 +7,8 @@ use Rattle.std.proofs.lemmas.Bool.{cases_lt}
 use Rattle.automata.specs.Automata.{Automaton, Word, WellFormed, run, accepts}
 use Rattle.automata.specs.States.{Internal, Almost}
 use Rattle.automata.specs.Lowest.{Lowest, found, none}
-use Rattle.automata.specs.Meaning.{Meaning, Moves, Rules, Same}
-use Rattle.automata.specs.Holding.{Serves, Holding, Before, StandsIn, Renewed, Opened, Stepped, Closed, Returned, meaning, moves}
+use Rattle.automata.specs.Meaning.{Rules, Same}
+use Rattle.automata.specs.Holding.{Serves, Holding, Before, StandsIn, Stepped, Closed, meaning, moves}
 use Rattle.automata.proofs.Words.{word_append, word_parts, run_append, run_below, internal_below}
 
 -- that an automaton serves is a fact, and no choice of one

@@ -7,10 +7,10 @@ use native.Mathlib.Nat.{ℕ_set}
 use Rattle.std.proofs.lemmas.List.{length_push}
 use Rattle.std.proofs.lemmas.Bool.{cases_lt}
 use Rattle.automata.specs.Automata.{Automaton, Word, WellFormed, run, accepts}
-use Rattle.automata.specs.States.{Almost, Together}
+use Rattle.automata.specs.States.{Together}
 use Rattle.automata.specs.Lowest.{Lowest, found, none}
-use Rattle.automata.specs.Meaning.{Meaning, Moves, Rules, Same}
-use Rattle.automata.specs.Noting.{Note, Serves, Noting, newest, older, Before, Renewed, Noted, inside, leaves, Entered, Opened, Returned, recalled, retraced, Left, Closed}
+use Rattle.automata.specs.Meaning.{Rules, Same}
+use Rattle.automata.specs.Noting.{Note, Serves, Noting, newest, older, Before, Noted, inside, leaves, Entered, Opened, Returned, recalled, retraced, Left, Closed}
 use Rattle.automata.specs.Noted.{StandsIn, Notes, Notes.none, Stands, meaning, moves}
 use Rattle.automata.proofs.Words.{run_append, word_append, word_parts, run_below}
 use Rattle.automata.proofs.Together.{together_sym, together_trans, almost_sym, almost_trans, stands_in_refl, almost_step, before_almost}

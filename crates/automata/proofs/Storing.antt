@@ -1,12 +1,12 @@
 -- A selector that stores states keeps the rules of its meaning.
-use Rattle.std.proofs.Common.{◌≡◌, ℕ, suc, ◌+◌, ◌-◌, ◌<◌, ◌≤◌, min, Bool, List, [], ◌∷◌, ◌++◌, length, get_or, take, set, sym, refl, ap, ◌∙◌, subst, ap₂, inl, inr, ⊎_elim, arith, length-append, length-set}
+use Rattle.std.proofs.Common.{◌≡◌, ℕ, suc, ◌+◌, ◌-◌, ◌<◌, ◌≤◌, min, Bool, List, [], ◌∷◌, ◌++◌, length, get_or, take, sym, refl, ap, ◌∙◌, subst, ap₂, inl, inr, ⊎_elim, arith, length-set}
 use Rattle.std.proofs.lemmas.List.{take_more_set, take_at, take-take, get_or_push, get_or-take, length_push}
 use Rattle.std.proofs.ByRecursion.{All-push}
 use Rattle.std.proofs.lemmas.Bool.{cases_lt}
 use Rattle.automata.specs.Automata.{Automaton, Word, run, accepts}
-use Rattle.automata.specs.Meaning.{Meaning, Moves, Rules, Same}
+use Rattle.automata.specs.Meaning.{Rules, Same}
 use Rattle.automata.proofs.Words.{run_append}
-use Rattle.automata.specs.Storing.{Storing, before, labels, carry, Stands, Renewed, Opened, Pushed, Closed, Popped, meaning, moves}
+use Rattle.automata.specs.Storing.{Storing, before, labels, carry, Stands, Opened, Pushed, Closed, Popped, meaning, moves}
 
 before_push : (A : Automaton) (p : ℕ) (u : List ℕ) (a : ℕ) → before A p (u ++ (a ∷ [])) ≡ before A p u ++ (run A p u ∷ [])
 before_push A p [] a = refl

@@ -1,10 +1,9 @@
 -- A selector with a depth and notes in place of a stack: the stackless selector.
 use Rattle.std.specs.Prelude.{◌≡◌, ℕ, ◌+◌, ◌-◌, ◌<◌, ◌≤◌, Bool, false, ◌⊎◌, List, [], ◌∷◌, ◌++◌, length, take, slice_index_or}
-use Rattle.automata.specs.Automata.{Automaton, Word, WellFormed, run, accepts}
+use Rattle.automata.specs.Automata.{Automaton, WellFormed}
 use Rattle.automata.specs.States.{Equivalent, Almost, Together}
 use Rattle.automata.specs.Grades.{Stackless}
 use Rattle.automata.specs.Lowest.{Lowest}
-use Rattle.automata.specs.Meaning.{Meaning, Moves}
 
 -- the state before the path entered another component at this depth
 pub record Note : Type 0 where

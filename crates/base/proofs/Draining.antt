@@ -1,6 +1,5 @@
 -- What a drain keeps true from tag to tag.
-use Rattle.std.proofs.Common.{◌≡◌, ℕ, ◌+◌, ◌*◌, ◌<◌, ◌≤◌, Bool, true, false, cond, ltb, List, [], ◌∷◌, ◌++◌, length, set, Some, None, Ok, Option, sym, refl, ap, ◌∙◌, subst, ap₂, append_assoc, append-nil, add-zero, add_assoc, arith, length-append}
-use Rattle.std.proofs.lemmas.Bool.{lt-ltb, le-ltb}
+use Rattle.std.proofs.Common.{◌≡◌, ℕ, ◌+◌, ◌*◌, ◌<◌, ◌≤◌, Bool, true, false, cond, ltb, List, [], ◌∷◌, ◌++◌, length, set, Some, None, Ok, sym, refl, ap, ◌∙◌, subst, ap₂, append_assoc, append-nil, add-zero, add_assoc, arith, length-append}
 use Rattle.std.proofs.lemmas.Bool.Decides.{nat_tests}
 use Rattle.automata.specs.Meaning.{Meaning, Moves}
 use Rattle.base.specs.Sources.{Source, first_of, rest_of}
@@ -14,7 +13,6 @@ use Rattle.text.specs.declared.refusal.Refusal.{Refusal}
 use Rattle.base.specs.declared.source.Ending.{Ending}
 use Rattle.base.specs.declared.source.Next.{Next}
 use Rattle.base.specs.declared.run.Cause.TheVariants.{Ended, Refused}
-use Rattle.base.specs.declared.run.Opened.{Opened}
 use Rattle.base.specs.declared.run.Taken.{Taken}
 use Rattle.base.specs.declared.run.Taken.TheVariants.{Opened as TakenOpened, Closed as TakenClosed}
 use Rattle.base.specs.declared.run.Run.{Run}

@@ -1,12 +1,12 @@
 -- One call of a source: over packed bytes, and over lines.
-use Rattle.std.proofs.Common.{◌≡◌, ℕ, ◌+◌, ◌-◌, ◌≤◌, List, [], ◌∷◌, map, length, get_or, take, drop, Ok, Err, Result, sym, refl, ap, ◌∙◌, arith}
+use Rattle.std.proofs.Common.{◌≡◌, ℕ, ◌+◌, ◌-◌, ◌≤◌, List, [], ◌∷◌, length, get_or, take, drop, Ok, Err, Result, sym, refl, ap, arith}
 use native.Mathlib.Nat.{sub-zero}
 use Rattle.std.proofs.lemmas.List.{take_rest}
 use Rattle.automata.specs.declared.tag.Tag.{Tag}
 use Rattle.text.specs.declared.refusal.Refusal.{Refusal}
 use Rattle.text.specs.Pieces.{next, split}
 use Rattle.base.specs.Sources.{Source, Gives}
-use Rattle.base.specs.TagLines.{Marked, opens, closes, marked, tag_of}
+use Rattle.base.specs.TagLines.{opens, closes, marked, tag_of}
 use Rattle.base.specs.Lines.{tag_then, from_line}
 use Rattle.base.specs.Packed.{packed_tag, packed_source}
 use Rattle.base.specs.declared.source.Ending.TheVariants.{Clean, Fault}

@@ -1,19 +1,19 @@
 -- A run whose closings are nested keeps its book.
-use Rattle.std.proofs.Common.{◌≡◌, ℕ, ◌+◌, ◌-◌, ◌<◌, ◌≤◌, Bool, true, false, cond, ◌||◌, eqb, ltb, leb, ◌≢◌, List, [], ◌∷◌, ◌++◌, length, take, Some, None, Ok, Err, Option, Result, sym, refl, ap, ◌∙◌, subst, ap₂, arith, length-append}
-use Rattle.std.proofs.lemmas.List.{take_at, length_push}
+use Rattle.std.proofs.Common.{◌≡◌, ℕ, ◌+◌, ◌-◌, ◌<◌, ◌≤◌, Bool, true, false, cond, eqb, ◌≢◌, List, [], ◌∷◌, ◌++◌, length, take, Some, None, Ok, Err, Option, Result, sym, refl, ap, ◌∙◌, subst, ap₂, arith, length-append}
+use Rattle.std.proofs.lemmas.List.{take_at}
 use Rattle.std.proofs.lemmas.Bool.{lt-ltb, eqb-false}
 use Rattle.std.proofs.lemmas.Bool.Decides.{nat_tests}
-use Rattle.automata.specs.Meaning.{Meaning, Moves, Rules, Same}
+use Rattle.automata.specs.Meaning.{Meaning, Moves, Rules}
 use Rattle.automata.specs.declared.tag.Tag.{Tag}
 use Rattle.automata.specs.declared.tag.Tag.TheVariants.{Open, Close}
 use Rattle.text.specs.declared.refusal.Refusal.{Refusal}
 use Rattle.base.specs.Phases.{is_after, is_inside}
-use Rattle.base.specs.Refusals.{Standing, refusal, first, bad_limit}
-use Rattle.base.specs.Courses.{Course, picked, still, stopped, onward, Reports}
+use Rattle.base.specs.Refusals.{Standing, refusal, first}
+use Rattle.base.specs.Courses.{Course, picked, onward, Reports}
 use Rattle.base.specs.Book.{Terms, Book, blank, judged, taking, takes, answers, drains, course, Fits, Nested}
-use Rattle.base.specs.Promises.{standing, BeginPromise, Opens, Closes, OfferPromise, as_opened, as_closed, Drains, DrainPromise, EndPromise}
+use Rattle.base.specs.Promises.{standing, BeginPromise, Opens, Closes, OfferPromise, as_opened, as_closed, Drains, EndPromise}
 use Rattle.base.specs.Promises.Drains.{none, refused, taken}
-use Rattle.base.specs.History.{Call, opening, closing, draining, tags, Right, Totalled, AllNested, AllRight, History, begun, opened, closed, drained, terms, KeepsItsBook}
+use Rattle.base.specs.History.{Call, AllNested, AllRight, History, begun, opened, closed, drained, terms, KeepsItsBook}
 use Rattle.base.specs.declared.run.Phase.{Phase}
 use Rattle.base.specs.declared.run.Phase.TheVariants.{Before, Inside, After}
 use Rattle.base.specs.declared.run.Run.{Run}

@@ -1,5 +1,5 @@
 -- The book of a run: what it should have read and picked.
-use Rattle.std.specs.Prelude.{◌≡◌, ℕ, ◌+◌, ◌-◌, Bool, true, false, cond, List, [], ◌∷◌, ◌++◌, length, take, Some, None, Ok, Err, Result, ◌==◌}
+use Rattle.std.specs.Prelude.{◌≡◌, ℕ, ◌+◌, ◌-◌, Bool, false, List, [], ◌∷◌, ◌++◌, length, take, Some, None, Ok, Err, Result, ◌==◌}
 use Rattle.text.specs.declared.refusal.Refusal.{Refusal}
 use Rattle.base.specs.Refusals.{Standing, refusal}
 use Rattle.base.specs.Courses.{Course, picked, still, stopped, onward}

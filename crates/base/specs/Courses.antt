@@ -6,7 +6,6 @@ use Rattle.text.specs.declared.refusal.Refusal.{Refusal}
 use Rattle.base.specs.declared.source.Ending.{Ending}
 use Rattle.base.specs.declared.run.Cause.{Cause}
 use Rattle.base.specs.declared.run.Cause.TheVariants.{Ended, Refused}
-use Rattle.base.specs.declared.run.Opened.{Opened}
 use Rattle.base.specs.declared.run.Taken.{Taken}
 use Rattle.base.specs.declared.run.Taken.TheVariants.{Opened as TakenOpened, Closed as TakenClosed}
 use Rattle.base.specs.declared.run.Drained.{Drained}

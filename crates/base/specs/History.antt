@@ -1,11 +1,11 @@
 -- What befalls a run from its beginning on, and what its book says of that.
-use Rattle.std.specs.Prelude.{◌≡◌, ℕ, ◌-◌, List, [], ◌∷◌, ◌++◌, length, Some, None, Ok, Err, Option, Result}
+use Rattle.std.specs.Prelude.{◌≡◌, ℕ, List, [], ◌∷◌, ◌++◌, length, Result}
 use Rattle.automata.specs.Meaning.{Meaning, Moves}
 use Rattle.base.specs.Sources.{Source}
 use Rattle.base.specs.Courses.{Reports}
 use Rattle.base.specs.Book.{Terms, Book, blank, answers, drains, course, Nested}
 use Rattle.base.specs.Picks.{paths, PickedExactly}
-use Rattle.base.specs.Promises.{BeginPromise, as_opened, as_closed, OpenPromise, ClosePromise, DrainPromise, EndPromise}
+use Rattle.base.specs.Promises.{as_opened, as_closed, OpenPromise, ClosePromise, DrainPromise, EndPromise}
 use Rattle.automata.specs.declared.tag.Tag.{Tag}
 use Rattle.automata.specs.declared.tag.Tag.TheVariants.{Open, Close}
 use Rattle.text.specs.declared.refusal.Refusal.{Refusal}

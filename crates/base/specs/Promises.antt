@@ -1,5 +1,5 @@
 -- What each call of a run promises.
-use Rattle.std.specs.Prelude.{◌≡◌, ℕ, ◌+◌, ◌-◌, Bool, cond, List, [], ◌∷◌, Some, None, Ok, Err, Option, Result, ◌==◌}
+use Rattle.std.specs.Prelude.{◌≡◌, ℕ, ◌+◌, ◌-◌, cond, List, [], ◌∷◌, Some, None, Ok, Err, Result, ◌==◌}
 use Rattle.automata.specs.Meaning.{Meaning, Moves}
 use Rattle.base.specs.Phases.{is_after}
 use Rattle.base.specs.Refusals.{Standing, refusal}

@@ -1,11 +1,10 @@
 -- How the stack selector holds its store.
-use Rattle.std.specs.Prelude.{◌≡◌, ℕ}
+use Rattle.std.specs.Prelude.{◌≡◌}
 use Rattle.std.proofs.Common.{ap}
 use Rattle.automata.specs.Storing.{Storing}
 use Rattle.base.specs.Stacks.{used}
 use Rattle.base.specs.Tables.{automaton}
 use Rattle.base.specs.declared.stack_selector.StackSelector.{StackSelector}
-use Rattle.base.specs.declared.table.Table.{Table}
 
 -- the same table, and the same lent memory
 pub record Kept (s t : StackSelector) : Type 0 where

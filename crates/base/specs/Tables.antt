@@ -1,5 +1,5 @@
 -- What a table means, and which parts make one.
-use Rattle.std.specs.Prelude.{◌≡◌, ℕ, Bool, true, false, cond, not, ◌&&◌, ◌||◌, ltb, List, [], ◌∷◌, take, Some, None, Ok, Err, Option, Result, nat_le, nat_lt, slice_index, slice_index_or}
+use Rattle.std.specs.Prelude.{◌≡◌, ℕ, Bool, false, cond, not, ◌&&◌, ltb, List, [], ◌∷◌, take, Some, None, Ok, Err, Option, Result, nat_le, nat_lt, slice_index, slice_index_or}
 use Rattle.automata.specs.Automata.{Automaton}
 use Rattle.text.specs.declared.refusal.Refusal.{Refusal}
 use Rattle.text.specs.declared.refusal.Refusal.TheVariants.{NameCount, StatesLine, Row}

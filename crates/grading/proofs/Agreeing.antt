@@ -1,5 +1,5 @@
 -- The pairs that are found are those of the relations.
-use Rattle.std.proofs.Common.{◌≡◌, ℕ, ◌<◌, Bool, true, false, ◌≢◌, ◌⊎◌, sym, refl, ◌∙◌, subst, inl, inr, true≢false}
+use Rattle.std.proofs.Common.{◌≡◌, ℕ, ◌<◌, Bool, true, false, ◌⊎◌, sym, refl, ◌∙◌, subst, inl, inr, true≢false}
 use Rattle.automata.specs.Automata.{Automaton, WellFormed}
 use Rattle.automata.specs.States.{Differ, Meet, Reaches, MeetInside}
 use Rattle.base.specs.Tables.{automaton}

@@ -1,5 +1,5 @@
 -- The lowest state of a component, and how many there are.
-use Rattle.std.proofs.Common.{◌≡◌, ℕ, suc, ◌+◌, ◌<◌, eqb, Decides, sym, subst, add-one, arith}
+use Rattle.std.proofs.Common.{ℕ, suc, ◌+◌, ◌<◌, eqb, Decides, sym, subst, add-one, arith}
 use Rattle.std.proofs.lemmas.Bool.Decides.{Decides-like, Decides-eqb}
 use Rattle.automata.specs.Automata.{Automaton}
 use Rattle.automata.specs.Components.{Count, has, lacks, Lowest, Numbers}

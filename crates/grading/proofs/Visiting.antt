@@ -4,7 +4,7 @@ use native.Mathlib.Decide.{ℕ_discrete}
 use Rattle.base.specs.Stacks.{used, Stored, Pushes}
 use Rattle.grading.specs.Pairing.{Adds}
 use Rattle.grading.specs.StateSets.{In, Taken}
-use Rattle.grading.specs.Worklists.{Found, pair, load, Room, Visits, Among, Below}
+use Rattle.grading.specs.Worklists.{Found, pair, Room, Visits, Among, Below}
 use Rattle.grading.specs.declared.states.StateSet.{StateSet}
 use Rattle.grading.specs.declared.worklist.Worklist.{Worklist}
 use Rattle.grading.proofs.Stored.{push_kept, push_new, push_only}

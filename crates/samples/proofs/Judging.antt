@@ -4,8 +4,8 @@ use Rattle.std.proofs.lemmas.Bool.{and_parts, eqb-true, eq-eqb, leb-true}
 use Rattle.automata.specs.Automata.{Automaton, Word, WellFormed, run}
 use Rattle.automata.specs.Grades.{Registerless, Stackless}
 use Rattle.automata.specs.Numbering.{met_in_row, met, FirstMet}
-use Rattle.automata.specs.States.{Internal, Equivalent, Almost, Meet, Reaches, Together}
-use Rattle.automata.proofs.Words.{run_below, internal_below}
+use Rattle.automata.specs.States.{Internal, Equivalent, Almost, Reaches}
+use Rattle.automata.proofs.Words.{internal_below}
 use Rattle.base.specs.Every.{every}
 use Rattle.grading.specs.Grading.{Earns}
 use Rattle.grading.specs.declared.grade.Grade.{Grade}

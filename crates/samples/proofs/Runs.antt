@@ -1,5 +1,5 @@
 -- What a run that is written out comes to, by its book.
-use Rattle.std.proofs.Common.{◌≡◌, ℕ, Bool, true, false, List, [], ◌∷◌, length, Some, None, sym, refl, ap, ◌∙◌, subst}
+use Rattle.std.proofs.Common.{◌≡◌, ℕ, Bool, true, false, List, [], ◌∷◌, length, Some, None, refl, ap, ◌∙◌}
 use Rattle.automata.specs.Meaning.{Meaning, Moves, Rules}
 use Rattle.automata.specs.declared.tag.Tag.{Tag}
 use Rattle.base.specs.Book.{Terms, blank, course, drains, Nested}
@@ -8,7 +8,7 @@ use Rattle.base.specs.History.{terms, draining, drained, begun}
 use Rattle.base.specs.declared.source.Ending.TheVariants.{Clean}
 use Rattle.base.specs.declared.run.Cause.TheVariants.{Ended, Refused}
 use Rattle.base.proofs.Keeping.{keeps_its_book}
-use Rattle.samples.specs.Runs.{Counted, Reads}
+use Rattle.samples.specs.Runs.{Reads}
 use Rattle.samples.specs.Samples.{going_back, between}
 
 -- what the book says of all the tags

@@ -1,16 +1,13 @@
 -- The tables of two table texts, and their minimal automata.
-use Rattle.std.proofs.Common.{◌≡◌, ℕ, ◌-◌, ◌<◌, true, false, eqb, ltb, List, [], ◌∷◌, length, get_or, take, replicate, sym, refl, ap, ◌∙◌, arith}
+use Rattle.std.proofs.Common.{◌≡◌, ℕ, ◌-◌, true, false, eqb, ltb, List, [], ◌∷◌, length, get_or, take, replicate, sym, refl, ap, ◌∙◌, arith}
 use Rattle.std.specs.Fmt.{digits}
 use Rattle.std.proofs.lemmas.Bool.{eqb-true, ltb-true}
-use Rattle.automata.specs.Automata.{Automaton, Word, WellFormed, run, accepts}
-use Rattle.automata.specs.Minimising.{Minimised}
+use Rattle.automata.specs.Automata.{Automaton, Word, WellFormed, run}
 use Rattle.base.specs.Tables.{automaton}
 use Rattle.base.specs.declared.table.Table.{Table}
-use Rattle.formats.specs.TableText.{Accepted}
 use Rattle.formats.specs.declared.table_text.TableText.{TableText}
 use Rattle.grading.specs.declared.grade.Grade.TheVariants.{Registerless}
 use Rattle.text.specs.Names.{is_name}
-use Rattle.text.specs.declared.labels.Labels.{Labels}
 use Rattle.text.specs.declared.labels.name.Name.{Name}
 use Rattle.samples.specs.Samples.{TableGraded, turning, idle}
 use Rattle.samples.proofs.Judging.{distinct_by, reached_by, numbered_by, registerless_by, unlike}

@@ -1,5 +1,5 @@
 -- Parts that break no rule make a table that keeps its bounds.
-use Rattle.std.proofs.Common.{◌<◌, ◌≤◌, take, sym, ap, ◌∙◌, arith}
+use Rattle.std.proofs.Common.{◌≤◌, take, sym, ap, ◌∙◌, arith}
 use native.Mathlib.Nat.{sub-zero}
 use Rattle.base.specs.Tables.{rows_each_below}
 use Rattle.base.proofs.Every.{rows_inside}
