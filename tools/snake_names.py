@@ -5,7 +5,7 @@ dashed type, as `Keeps-its-book`, to `KeepsItsBook`. Run once, at the top, after
 It respells definitions, lemmas, fields, constructors and local names wherever they stand in .antt files, in
 the clauses of .rt files, and between backticks in docs/ and README.md. Names of the library, names that the
 check makes (goals, steps, their fields), comments, strings and functions of src/ keep their spelling. It
-writes nothing, and says why, where two names would fall together.
+lists the names that stand in both spellings already, and writes only with --write: read that list first.
 """
 import os
 import re
