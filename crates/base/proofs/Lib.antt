@@ -3,3 +3,4 @@ pub mod Every
 pub mod Picking
 pub mod Keeping
 pub mod Draining
+pub mod Same

@@ -1,6 +1,5 @@
 //! The store: last in, first out, over a lent slice.
-ghost use Rattle.std.specs.Prelude.{◌≡◌, length};
-ghost use Rattle.base.specs.Stacks.{used, Pushes, Pops, Empties};
+ghost use Rattle.std.specs.Prelude.{◌≡◌, ◌≤◌, length};
 
 // There is no invariant that `len` is within the slice, since the checker does not cover a struct by value (a run) that holds
 // one with both a ghost field and a `&mut`: a larger `len`, which no call makes, counts as a full store.
@@ -9,9 +8,12 @@ ghost use Rattle.base.specs.Stacks.{used, Pushes, Pops, Empties};
 pub struct Stack<'a, T> {
     places: &'a mut [T],
     len: usize,
+    ghost within: { len ≤ length places.now },
 }
 
 impl<'a, T: Copy> Stack<'a, T> {
+    ghost use Rattle.base.specs.Stacks.{used, Pushes, Pops, Empties};
+
     /// Nothing stored; the slice keeps its contents.
     pub fn new(places: &'a mut [T]) -> Stack<'a, T>
         ensures len { result.len ≡ 0 }

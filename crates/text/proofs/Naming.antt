@@ -1,20 +1,19 @@
 -- Lemmas on names and on lists of names.
-use Rattle.std.proofs.Common.{◌≡◌, ℕ, zero, suc, ◌+◌, ◌<◌, Bool, true, false, cond, ◌&&◌, ◌||◌, List, [], ◌∷◌, ◌++◌, map, length, get_or, take, drop, set, is_some, Some, None, Decides, Option, sym, refl, ap, ◌∙◌, subst, arith}
-use Rattle.std.specs.List.{ContainsAt as Has}
+use Rattle.std.proofs.Common.{◌≡◌, ℕ, zero, suc, ◌+◌, ◌<◌, ◌≤◌, Bool, true, false, cond, ◌||◌, List, [], ◌∷◌, ◌++◌, map, length, get_or, position, is_some, Some, None, Decides, Option, sym, refl, ap, ◌∙◌, subst, arith}
+use Rattle.std.specs.List.{ContainsAt as Has, position_from}
+use Rattle.std.specs.Option.{option_map}
 use Rattle.std.specs.Str.{bytes_eq}
 use Rattle.std.proofs.ByRecursion.{has_get_or}
 use Rattle.std.proofs.lemmas.Slice.Eq.{bytes_eq-Decides}
-use Rattle.std.proofs.lemmas.List.{at_drop_more, get_or-map, get_or-take, length-map, length-take, map_push, take_more_set}
+use Rattle.std.proofs.lemmas.Iterator.Adapters.{position_from-zero}
+use Rattle.std.proofs.lemmas.List.{length-map, length-take, map_push}
 use Rattle.std.proofs.lemmas.Bool.{and_from, or_parts, or_from}
 use Rattle.std.proofs.lemmas.Bool.Decides.{not_from_Decides, same_from_decides, Decides-like, Decides-by_or}
 use Rattle.text.specs.declared.labels.name.Name.{Name}
-use Rattle.text.specs.Names.{name_byte, all_name_bytes}
+use Rattle.text.specs.declared.list.ArrayList.{ArrayList}
+use Rattle.text.specs.Lists.{items}
 use Rattle.text.specs.NameLists.{all_names, among, twice, shifted, place, Lowest}
 use Rattle.text.specs.Stored.{name_bytes, stored}
-
--- one byte on
-pub bytes_more : (s : List ℕ) (i : ℕ) (b : Bool) → i < length s → b ≡ name_byte (get_or s i 0) → all_name_bytes (drop i s) ≡ (b && all_name_bytes (drop (i + 1) s))
-bytes_more s i b h e = at_drop_more all_name_bytes s i 0 h ∙ ap (λ t. t && all_name_bytes (drop (i + 1) s)) (sym e)
 
 pub among_decides : (name : List ℕ) (xs : List (List ℕ)) → Decides (among name xs) (Has xs name)
 among_decides name xs = Decides-by_or (λ x. bytes_eq x name) (λ x. x ≡ name) (among name) (λ x. bytes_eq-Decides x name) refl (λ _ _. refl) xs
@@ -68,17 +67,55 @@ place_among (x ∷ xs) name =
     let P : Bool → Type 0 = λ b. is_some (cond b (Some 0) (shifted (place xs name))) ≡ (b || among name xs) in
     elim (bytes_eq x name) as P [ true ↦ refl | false ↦ some_shifted (place xs name) ∙ place_among xs name ]
 
-pub stored_at : (count : ℕ) (names : List Name) (i : ℕ) (n : Name) → i < length (stored count names) → get_or (stored count names) i [] ≡ name_bytes (get_or names i n)
-stored_at count names i n h =
-    let in' : i < length (take count names) = simp length-map at h in
-    get_or-map name_bytes (take count names) i n [] in' ∙ ap name_bytes (get_or-take count names i n (omega (arith, simp length-take at in')))
+pub lowest_place : (xs : List (List ℕ)) (name : List ℕ) → Lowest xs name (place xs name)
+lowest_place [] name = λ k h. absurd (omega (arith, h))
+lowest_place (x ∷ xs) name = lowest_head (bytes_eq x name) (place xs name) refl (lowest_place xs name)
+  where
+    lowest_head : (b : Bool) (r : Option ℕ) → bytes_eq x name ≡ b → Lowest xs name r → Lowest (x ∷ xs) name (cond b (Some 0) (shifted r))
+    lowest_head true r e low = (omega arith, (bytes_eq-Decides x name).0 e, λ k h. absurd (omega (arith, h)))
+    lowest_head false (Some i) e low = (omega (arith, low.0), low.1, λ k. later k)
+      where
+        later : (k : ℕ) → k < suc i → get_or (x ∷ xs) k [] ≡ name → ⊥
+        later zero h = not_from_Decides _ (bytes_eq-Decides x name) e
+        later (suc k) h = low.2 k (omega (arith, h))
+    lowest_head false None e low = later
+      where
+        later : (k : ℕ) → k < length (x ∷ xs) → get_or (x ∷ xs) k [] ≡ name → ⊥
+        later zero h = not_from_Decides _ (bytes_eq-Decides x name) e
+        later (suc k) h = low k (omega (arith, h))
 
-pub stored_push : (count : ℕ) (names : List Name) (n : Name) (name : List ℕ) → count < length names → name_bytes n ≡ name → stored (count + 1) (set names count n) ≡ stored count names ++ name ∷ []
-stored_push count names n name h e =
-    ap (map name_bytes) (take_more_set names count n h) ∙ map_push name_bytes (take count names) n ∙ ap (λ x. stored count names ++ x ∷ []) e
+pub lowest_at : (xs : List (List ℕ)) (name : List ℕ) (r : Option ℕ) → r ≡ place xs name → Lowest xs name r
+lowest_at xs name r e = rw e (lowest_place xs name)
+
+module _ (name : List ℕ) where
+  abbrev bears : Name → Bool
+  bears n = bytes_eq (name_bytes n) name
+
+  position_place : (i : ℕ) (ns : List Name) → position_from bears i ns ≡ option_map (λ k. i + k) (place (map name_bytes ns) name)
+  position_place i [] = refl
+  position_place i (n ∷ ns) = head (bears n) (place (map name_bytes ns) name) (position_place (i + 1) ns)
+    where
+      head : (b : Bool) (r : Option ℕ) → position_from bears (i + 1) ns ≡ option_map (λ k. i + 1 + k) r → cond b (Some i) (position_from bears (i + 1) ns) ≡ option_map (λ k. i + k) (cond b (Some 0) (shifted r))
+      head true r e = ap Some (omega arith)
+      head false None e = e
+      head false (Some k) e = e ∙ ap Some (omega arith)
+
+  -- the first stored name that is this one has its place
+  pub place_by_position : (ns : List Name) → position (λ n. bytes_eq (name_bytes n) name) ns ≡ place (map name_bytes ns) name
+  place_by_position ns = position_from-zero bears ns ∙ position_place 0 ns ∙ zero_more (place (map name_bytes ns) name)
+    where
+      zero_more : (r : Option ℕ) → option_map (λ k. 0 + k) r ≡ r
+      zero_more None = refl
+      zero_more (Some k) = ap Some (omega arith)
+
+pub few_names : (names : ArrayList Name 16) → length (stored names) ≤ 16
+few_names names =
+    omega (arith, names.fits, length-map (items names) name_bytes, length-take names.len names.places)
+
+pub stored_push : (before : ArrayList Name 16) (n : Name) (after : ArrayList Name 16) → items after ≡ items before ++ n ∷ [] → stored after ≡ stored before ++ name_bytes n ∷ []
+stored_push before n after e = ap (map name_bytes) e ∙ map_push name_bytes (items before) n
 
 -- stored names keep the rule, each by its own invariant
-pub stored_rule : (count : ℕ) (names : List Name) → all_names (stored count names) ≡ true
-stored_rule zero names = refl
-stored_rule (suc count) [] = refl
-stored_rule (suc count) (n ∷ names) = and_from _ _ n.rule (stored_rule count names)
+pub stored_rule : (ns : List Name) → all_names (map name_bytes ns) ≡ true
+stored_rule [] = refl
+stored_rule (n ∷ ns) = and_from _ _ n.rule (stored_rule ns)

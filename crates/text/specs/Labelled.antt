@@ -9,7 +9,7 @@ use Rattle.text.specs.NameLists.{among, place}
 use Rattle.text.specs.Stored.{stored}
 
 abbrev pub names_of : Labels → List (List ℕ)
-names_of l = stored l.count l.names
+names_of l = stored l.names
 
 -- the names of the labels, or why there are none
 abbrev pub read_names : Result Labels Refusal → Result (List (List ℕ)) Refusal

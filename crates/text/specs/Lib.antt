@@ -1,4 +1,5 @@
 pub mod Refusals
+pub mod Lists
 pub mod Names
 pub mod NameLists
 pub mod Stored

@@ -1,17 +1,16 @@
 -- Lists of names, each name a list of bytes.
-use Rattle.std.specs.Prelude.{◌≡◌, ℕ, suc, ◌<◌, Bool, true, false, cond, ◌&&◌, ◌||◌, List, [], ◌∷◌, length, Some, None, Option, ◌≢◌, slice_index_or}
+use Rattle.std.specs.Prelude.{◌≡◌, ℕ, suc, ◌<◌, Bool, false, cond, ◌||◌, List, [], ◌∷◌, length, Some, None, Option, ◌≢◌, slice_index_or}
+use Rattle.std.specs.List.{list_all, list_any}
 use Rattle.std.specs.Str.{bytes_eq}
 use Rattle.text.specs.Names.{is_name}
 
 -- each is a name by the rule
 abbrev pub all_names : List (List ℕ) → Bool
-all_names [] = true
-all_names (x ∷ xs) = is_name x && all_names xs
+all_names = list_all is_name
 
 -- the name is one of them
 abbrev pub among : List ℕ → List (List ℕ) → Bool
-among name [] = false
-among name (x ∷ xs) = bytes_eq x name || among name xs
+among name = list_any (λ x. bytes_eq x name)
 
 -- a name stands twice
 abbrev pub twice : List (List ℕ) → Bool

@@ -1,10 +1,11 @@
--- The names that fixed arrays store.
-use Rattle.std.specs.Prelude.{ℕ, List, map, take}
+-- The names that are stored.
+use Rattle.std.specs.Prelude.{ℕ, List, map}
 use Rattle.text.specs.declared.labels.name.Name.{Name}
+use Rattle.text.specs.declared.list.ArrayList.{ArrayList}
+use Rattle.text.specs.Lists.{items}
 
 abbrev pub name_bytes : Name → List ℕ
-name_bytes n = take n.len n.bytes
+name_bytes n = items n.bytes
 
--- the first `count` names
-abbrev pub stored : ℕ → List Name → List (List ℕ)
-stored count names = map name_bytes (take count names)
+abbrev pub stored : ArrayList Name 16 → List (List ℕ)
+stored names = map name_bytes (items names)

@@ -2,7 +2,11 @@
 #![tactic(auto)]
 
 pub mod labels;
+pub mod list;
 pub mod names;
 pub mod numbers;
 pub mod pieces;
 pub mod refusal;
+
+/// The most bytes of a text, or of a stream of tags.
+pub const MAX_BYTES: usize = 65_536;

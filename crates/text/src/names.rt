@@ -1,5 +1,5 @@
 ghost use Rattle.std.specs.Prelude.{◌≡◌};
-ghost use Rattle.text.specs.Names.{name_byte, is_name};
+ghost use Rattle.text.specs.Names.{name_byte, all_name_bytes, is_name};
 
 /// The most bytes that a name has.
 pub const MAX_NAME: usize = 16;
@@ -15,13 +15,11 @@ fn is_name_byte(b: u8) -> bool
 pub fn is_name(s: &[u8]) -> bool
     ensures { result ≡ is_name s.now }
 {
-    if s.is_empty() || s.len() > MAX_NAME {
-        return false;
-    }
-    for b in s {
-        if !is_name_byte(*b) {
-            return false;
-        }
-    }
-    true
+    !s.is_empty() && s.len() <= MAX_NAME && all_name_bytes(s)
+}
+
+fn all_name_bytes(s: &[u8]) -> bool
+    ensures { result ≡ all_name_bytes s.now }
+{
+    s.iter().all(|b| is_name_byte(*b))
 }

@@ -12,7 +12,7 @@ pub fn read_number(field: &[u8]) -> Option<u8>
     }
     let mut n: u16 = 0;
     for b in field {
-        if *b < b'0' || *b > b'9' {
+        if !b.is_ascii_digit() {
             return None;
         }
         n = n * 10 + (*b - b'0') as u16;

@@ -8,8 +8,8 @@ returns-then-is_empty c n small e = let w = written _ n small e in search rules
 pub returns-then-field-gt1 : goal.returns-then-field-gt1
 returns-then-field-gt1 c n small e = let w = written _ n small e in search rules
 
-pub returns-then-b-lt48 : goal.returns-then-b-lt48
-returns-then-b-lt48 c n small e = let w = written _ n small e in search rules
+pub returns-then-not-is_ascii_digit : goal.returns-then-not-is_ascii_digit
+returns-then-not-is_ascii_digit c n small e = let w = written _ n small e in search rules
 
 pub overflow_mul-n : goal.overflow_mul-n
 overflow_mul-n c =

@@ -1,29 +1,27 @@
-use Rattle.std.proofs.Common.{Some, None, rules}
-use Rattle.std.proofs.lemmas.Slice.Eq.{slice_eq-Decides}
+use Rattle.std.proofs.Common.{◌≡◌, Some, rules}
+use Rattle.text.specs.NameLists.{place}
+use Rattle.text.specs.Lists.{items}
 use Rattle.text.specs.Labelled.{names_of}
-use Rattle.text.specs.NameLists.{Lowest}
-use Rattle.text.proofs.Naming.{place_lowest, stored_at}
+use Rattle.text.proofs.Naming.{place_by_position, lowest_at}
 use Rattle.text.proofs.labels.Labels.find.Goals as goal
-use Rattle.std.proofs.lemmas.Bool.Decides.{Decides-eqb}
 
-pub returns-then-eq : goal.returns-then-eq
-returns-then-eq c =
-    let l = c.args.self.now in
-    let i = c.loop-i.i in
-    let read = stored_at l.count l.names i c.index-self-i.result (search rules) in
-    let same = slice_eq-Decides Decides-eqb c.as_bytes.result.now c.args.name.now _ c.eq.ensures in
-    let low : Lowest (names_of l) c.args.name.now (Some i) = search rules in
-    record { place = place_lowest (names_of l) c.args.name.now (Some i) low; lowest = low }
-
-pub loop-i-preserved : goal.loop-i-preserved
-loop-i-preserved c =
-    let l = c.args.self.now in
-    let read = stored_at l.count l.names c.loop-i.i c.index-self-i.result (search rules) in
-    let same = slice_eq-Decides Decides-eqb c.as_bytes.result.now c.args.name.now _ c.eq.ensures in
+pub returns-in_err-place-clause-place : goal.returns-in_err-place-clause-place
+returns-in_err-place-clause-place c =
+    let there = place_by_position c.args.name.now (items c.args.self.now.names) in
     search rules
 
-pub returns : goal.returns
-returns c =
-    let l = c.args.self.now in
-    let low : Lowest (names_of l) c.args.name.now None = search rules in
-    record { place = place_lowest (names_of l) c.args.name.now None low; lowest = low }
+pub returns-in_err-place-clause-lowest : goal.returns-in_err-place-clause-lowest
+returns-in_err-place-clause-lowest c =
+    let there = place_by_position c.args.name.now (items c.args.self.now.names) in
+    search (rules, lowest_at)
+
+pub returns-clause-place : goal.returns-clause-place
+returns-clause-place c =
+    let there = place_by_position c.args.name.now (items c.args.self.now.names) in
+    search rules
+
+pub returns-clause-lowest : goal.returns-clause-lowest
+returns-clause-lowest c =
+    let there = place_by_position c.args.name.now (items c.args.self.now.names) in
+    let found : Some c.in_ok-place.place ≡ place (names_of c.args.self.now) c.args.name.now = search rules in
+    lowest_at (names_of c.args.self.now) c.args.name.now (Some c.in_ok-place.place) found
