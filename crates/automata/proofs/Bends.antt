@@ -10,11 +10,11 @@ use Rattle.automata.proofs.Words.{word_append}
 use Rattle.automata.proofs.Tags.{opened_append, path_open, reads_append}
 
 -- the tags lead from the labels `old` open to `new` open, without closing the root
-record Leads (n : ℕ) (old : List ℕ) (ts : List Tag) (new : List ℕ) : Type 0 where
-  rest : (us : List Tag) → Rest n new us → Rest n old (ts ++ us)
+record Leads (n : ℕ) (old : List ℕ) (ts : List (Tag ℕ)) (new : List ℕ) : Type 0 where
+  rest : (us : List (Tag ℕ)) → Rest n new us → Rest n old (ts ++ us)
   labels : opened old ts ≡ new
 
-leads_append : {n : ℕ} {r s t : List ℕ} {ts us : List Tag} → Leads n r ts s → Leads n s us t → Leads n r (ts ++ us) t
+leads_append : {n : ℕ} {r s t : List ℕ} {ts us : List (Tag ℕ)} → Leads n r ts s → Leads n s us t → Leads n r (ts ++ us) t
 leads_append {n} {r} {ts} {us} h k = record {
   rest = λ vs e. subst (Rest n r) (sym (append_assoc ts us vs)) (h.rest (us ++ vs) (k.rest vs e));
   labels = opened_append r ts us ∙ ap (λ s. opened s us) h.labels ∙ k.labels;
@@ -37,11 +37,11 @@ rest_close n [] = refl
 rest_close n (a ∷ stack) = (refl, rest_close n stack)
 
 -- down c and y, back up to c, down v
-abbrev front : List ℕ → List ℕ → List ℕ → List Tag
+abbrev front : List ℕ → List ℕ → List ℕ → List (Tag ℕ)
 front c y v = map Open (c ++ y) ++ (map Close (reverse y) ++ map Open v)
 
 -- the same, one opening more, and out
-abbrev bend : List ℕ → List ℕ → List ℕ → ℕ → List Tag
+abbrev bend : List ℕ → List ℕ → List ℕ → ℕ → List (Tag ℕ)
 bend c y v b = front c y v ++ Open b ∷ map Close (b ∷ reverse (c ++ v))
 
 pub some_reverse : (a : ℕ) (w : List ℕ) → reverse (a ∷ w) ≢ []
@@ -68,7 +68,7 @@ module _ (n a : ℕ) (c y v : List ℕ) (c_word : Word n (a ∷ c)) (y_word : Wo
 
 -- the machine errs on some document
 abbrev pub Fails : Automaton → Machine → Type 0
-Fails A M = (d : List Tag) × Document A.labels d × Errs A M d
+Fails A M = (d : List (Tag ℕ)) × Document A.labels d × Errs A M d
 
 module _ (A : Automaton) (M : Machine) (a : ℕ) (c y v : List ℕ) (b : ℕ) (c_word : Word A.labels (a ∷ c)) (y_word : Word A.labels y) (v_word : Word A.labels v) (b_word : b < A.labels) where
   -- the machine's answer at the last opening of the bend

@@ -13,7 +13,7 @@ word_reverse n [] h = h
 word_reverse n (a ∷ w) (h, k) = subst (Word n) (sym (reverse-cons a w)) (word_append n (reverse w) (a ∷ []) (word_reverse n w k) (h, tt))
 
 -- the labels that are open at an opening are below n
-opened_word : (n : ℕ) (stack : List ℕ) (ts : List Tag) (a : ℕ) (us : List Tag) → Rest n stack (ts ++ Open a ∷ us) → Word n stack → Word n (opened stack (ts ++ Open a ∷ []))
+opened_word : (n : ℕ) (stack : List ℕ) (ts : List (Tag ℕ)) (a : ℕ) (us : List (Tag ℕ)) → Rest n stack (ts ++ Open a ∷ us) → Word n stack → Word n (opened stack (ts ++ Open a ∷ []))
 opened_word n [] [] a us rest word = absurd rest
 opened_word n [] (t ∷ ts) a us rest word = absurd rest
 opened_word n (b ∷ stack) [] a us (h, rest) word = (h, word)
@@ -21,16 +21,16 @@ opened_word n (b ∷ stack) (Open c ∷ ts) a us (h, rest) word = opened_word n 
 opened_word n (b ∷ stack) (Close c ∷ ts) a us (h, rest) word = opened_word n stack ts a us rest word.1
 
 -- the path to an element of a document is a word over the document's labels
-pub path_word : (n : ℕ) (ts : List Tag) (a : ℕ) (us : List Tag) → Document n (ts ++ Open a ∷ us) → Word n (path (ts ++ Open a ∷ []))
+pub path_word : (n : ℕ) (ts : List (Tag ℕ)) (a : ℕ) (us : List (Tag ℕ)) → Document n (ts ++ Open a ∷ us) → Word n (path (ts ++ Open a ∷ []))
 path_word n [] a us (h, rest) = word_reverse n (a ∷ []) (h, tt)
 path_word n (Open b ∷ ts) a us (h, rest) = word_reverse n (opened (b ∷ []) (ts ++ Open a ∷ [])) (opened_word n (b ∷ []) ts a us rest (h, tt))
 path_word n (Close b ∷ ts) a us h = absurd h
 
 module _ (A B : Automaton) (labels : B.labels ≡ A.labels) (same : (w : List ℕ) → Word A.labels w → accepts B w ≡ accepts A w) where
-  word_at : (d : List Tag) → Document A.labels d → {M : Machine} {C : Automaton} (e : Errs C M d) → Word A.labels (path (e.before ++ Open e.opens ∷ []))
+  word_at : (d : List (Tag ℕ)) → Document A.labels d → {M : Machine} {C : Automaton} (e : Errs C M d) → Word A.labels (path (e.before ++ Open e.opens ∷ []))
   word_at d document e = path_word A.labels e.before e.opens e.after (subst (Document A.labels) e.splits document)
 
-  errs_there : (M : Machine) (d : List Tag) → Document A.labels d → Errs B M d → Errs A M d
+  errs_there : (M : Machine) (d : List (Tag ℕ)) → Document A.labels d → Errs B M d → Errs A M d
   errs_there M d document e = record {
     before = e.before;
     opens = e.opens;
@@ -39,7 +39,7 @@ module _ (A B : Automaton) (labels : B.labels ≡ A.labels) (same : (w : List �
     differs = λ k. e.differs (k ∙ sym (same (path (e.before ++ Open e.opens ∷ [])) (word_at d document e)));
   }
 
-  errs_back : (M : Machine) (d : List Tag) → Document A.labels d → Errs A M d → Errs B M d
+  errs_back : (M : Machine) (d : List (Tag ℕ)) → Document A.labels d → Errs A M d → Errs B M d
   errs_back M d document e = record {
     before = e.before;
     opens = e.opens;

@@ -6,16 +6,16 @@ use Rattle.automata.specs.declared.tag.Tag.{Tag}
 use Rattle.automata.specs.declared.tag.Tag.TheVariants.{Open, Close}
 use Rattle.automata.specs.Streams.{opened, path, Machine, Finite, reads}
 
-pub opened_append : (stack : List ℕ) (ts us : List Tag) → opened stack (ts ++ us) ≡ opened (opened stack ts) us
+pub opened_append : (stack : List ℕ) (ts us : List (Tag ℕ)) → opened stack (ts ++ us) ≡ opened (opened stack ts) us
 opened_append stack [] us = refl
 opened_append stack (Open a ∷ ts) us = opened_append (a ∷ stack) ts us
 opened_append stack (Close a ∷ ts) us = opened_append (tail stack) ts us
 
-pub path_open : (ts : List Tag) (a : ℕ) → path (ts ++ Open a ∷ []) ≡ path ts ++ a ∷ []
+pub path_open : (ts : List (Tag ℕ)) (a : ℕ) → path (ts ++ Open a ∷ []) ≡ path ts ++ a ∷ []
 path_open ts a = ap reverse (opened_append [] ts (Open a ∷ [])) ∙ reverse-cons a (opened [] ts)
 
 module _ (M : Machine) where
-  pub reads_append : (m : ℕ) (ts us : List Tag) → reads M m (ts ++ us) ≡ reads M (reads M m ts) us
+  pub reads_append : (m : ℕ) (ts us : List (Tag ℕ)) → reads M m (ts ++ us) ≡ reads M (reads M m ts) us
   reads_append m [] us = refl
   reads_append m (t ∷ ts) us = reads_append (M.next m t) ts us
 

@@ -22,7 +22,7 @@ lowest test (suc n) other = lowest test n (cond (test n) n other)
 abbrev pub back : (A : Automaton) → Tests A → ℕ → ℕ → ℕ
 back A T p a = lowest (λ s. T.internal s && T.almost (A.step s a) p) A.states p
 
-abbrev pub moves : (A : Automaton) → Tests A → ℕ → Tag → ℕ
+abbrev pub moves : (A : Automaton) → Tests A → ℕ → Tag ℕ → ℕ
 moves A T p (Open a) = A.step p a
 moves A T p (Close a) = back A T p a
 

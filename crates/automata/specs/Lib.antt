@@ -1,4 +1,5 @@
 pub mod Automata
+pub mod Tags
 pub mod Meaning
 pub mod Storing
 pub mod States

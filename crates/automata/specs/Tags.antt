@@ -1,7 +1,8 @@
 -- The label of a tag.
+use Rattle.std.specs.Prelude.{ℕ}
 use Rattle.automata.specs.declared.tag.Tag.{Tag}
 use Rattle.automata.specs.declared.tag.Tag.TheVariants.{Open, Close}
 
-abbrev pub label : {L : Type 0} → Tag L → L
+abbrev pub label : Tag ℕ → ℕ
 label (Open a) = a
 label (Close a) = a

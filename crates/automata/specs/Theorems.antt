@@ -26,8 +26,8 @@ ClosingStands = (A : Automaton) → WellFormed A → Minimal A → Registerless 
 
 -- the machine's state stands for the path of open labels up to the root's closing
 abbrev pub GivenStands : Type 0
-GivenStands = (A : Automaton) → WellFormed A → Minimal A → Registerless A → (T : Tests A) (before : List Tag) (t : Tag) (after : List Tag) → Document A.labels (before ++ t ∷ after) → Stands A (reads (machine A T) A.start before) (path before)
+GivenStands = (A : Automaton) → WellFormed A → Minimal A → Registerless A → (T : Tests A) (before : List (Tag ℕ)) (t : Tag ℕ) (after : List (Tag ℕ)) → Document A.labels (before ++ t ∷ after) → Stands A (reads (machine A T) A.start before) (path before)
 
 -- where no two states clash, the automaton's machine is finite and errs on no document
 abbrev pub GivenServes : Type 0
-GivenServes = (A : Automaton) → WellFormed A → Minimal A → Registerless A → (T : Tests A) → Finite A.labels (machine A T) × ((d : List Tag) → Document A.labels d → ¬ Errs A (machine A T) d)
+GivenServes = (A : Automaton) → WellFormed A → Minimal A → Registerless A → (T : Tests A) → Finite A.labels (machine A T) × ((d : List (Tag ℕ)) → Document A.labels d → ¬ Errs A (machine A T) d)

@@ -9,9 +9,9 @@ pub enum Tag<L = u8> {
     Close(L),
 }
 
-impl<L: Drop> Tag<L> {
+impl Tag {
     /// The label of the element.
-    pub fn label(self) -> L
+    pub fn label(self) -> u8
         ensures { result ≡ label self }
     {
         match self {
