@@ -1,18 +1,17 @@
 -- What a drain keeps true from tag to tag.
-use Rattle.std.proofs.Common.{◌≡◌, ℕ, ◌+◌, ◌*◌, ◌<◌, ◌≤◌, Bool, true, false, cond, ltb, List, [], ◌∷◌, ◌++◌, length, set, Some, None, Ok, sym, refl, ap, ◌∙◌, subst, ap₂, append_assoc, append-nil, add-zero, add_assoc, arith, length-append}
+use Rattle.std.proofs.Common.{◌≡◌, ℕ, ◌+◌, ◌*◌, ◌<◌, ◌≤◌, Bool, true, false, cond, ltb, List, [], ◌∷◌, ◌++◌, length, set, Some, None, Ok, Err, Option, sym, refl, ap, ◌∙◌, subst, ap₂, append_assoc, append-nil, add-zero, add_assoc, arith, length-append}
 use Rattle.std.proofs.lemmas.Bool.Decides.{nat_tests}
 use Rattle.automata.specs.Meaning.{Meaning, Moves}
-use Rattle.base.specs.Sources.{Source, first_of, rest_of}
+use Rattle.base.specs.Sources.{Source, end_of, first_of, rest_of}
 use Rattle.base.specs.Refusals.{Standing, refusal}
-use Rattle.base.specs.Courses.{Course, picked, still, stopped, onward, laid}
+use Rattle.base.specs.Courses.{Course, picked, still, stopped, onward, ended, laid}
 use Rattle.base.specs.Promises.{standing, OfferPromise, Drains, DrainPromise}
 use Rattle.base.specs.Promises.Drains.{none, refused, taken}
 use Rattle.automata.specs.declared.tag.Tag.{Tag}
 use Rattle.automata.specs.declared.tag.Tag.TheVariants.{Open, Close}
 use Rattle.text.specs.declared.refusal.Refusal.{Refusal}
-use Rattle.base.specs.declared.source.Ending.{Ending}
-use Rattle.base.specs.declared.source.Next.{Next}
-use Rattle.base.specs.declared.run.Cause.TheVariants.{Ended, Refused}
+use Rattle.base.specs.declared.source.Fault.{Fault}
+use Rattle.base.specs.declared.run.Cause.TheVariants.{Refused}
 use Rattle.base.specs.declared.run.Taken.{Taken}
 use Rattle.base.specs.declared.run.Taken.TheVariants.{Opened as TakenOpened, Closed as TakenClosed}
 use Rattle.base.specs.declared.run.Run.{Run}
@@ -39,19 +38,25 @@ laid_more [] (y ∷ ys) x = grind (arith, nat_tests)
 laid_more (z ∷ xs) [] x = grind (arith, nat_tests)
 laid_more (z ∷ xs) (y ∷ ys) x = let more = laid_more xs ys x in grind (arith, nat_tests)
 
-gave_tag : (s : Source) (x : Tag) → Next.Tag x ≡ first_of s → s.waiting ≡ x ∷ (rest_of s).waiting
+gave_tag : (s : Source) (x : Tag ℕ) → Ok (Some x) ≡ first_of s → s.waiting ≡ x ∷ (rest_of s).waiting
 gave_tag s x e = go s.waiting s.ending e
   where
-    go : (w : List Tag) (n : Ending) → Next.Tag x ≡ first_of (record { waiting = w; ending = n }) → w ≡ x ∷ (rest_of (record { waiting = w; ending = n })).waiting
-    go [] n e = cc
+    go : (w : List (Tag ℕ)) (n : Option Fault) → Ok (Some x) ≡ first_of (record { waiting = w; ending = n }) → w ≡ x ∷ (rest_of (record { waiting = w; ending = n })).waiting
+    go [] None e = cc
+    go [] (Some fault) e = cc
     go (y ∷ w) n e = cc
 
-gave_end : (s : Source) (n : Ending) → Next.End n ≡ first_of s → (s.waiting ≡ []) × (n ≡ s.ending)
-gave_end s n e = go s.waiting s.ending e
+-- how a drain ends with the source
+pub gave_end : (s : Source) (e : Option Fault) → end_of e ≡ first_of s → (s.waiting ≡ []) × (e ≡ s.ending)
+gave_end s e gave = go s.waiting s.ending e gave
   where
-    go : (w : List Tag) (m : Ending) → Next.End n ≡ first_of (record { waiting = w; ending = m }) → (w ≡ []) × (n ≡ m)
-    go [] m e = (refl, cc)
-    go (y ∷ w) m e = (cc, cc)
+    go : (w : List (Tag ℕ)) (m e : Option Fault) → end_of e ≡ first_of (record { waiting = w; ending = m }) → (w ≡ []) × (e ≡ m)
+    go [] None None h = (refl, refl)
+    go [] None (Some fault) h = cc
+    go [] (Some fault) None h = cc
+    go [] (Some fault) (Some other) h = (refl, cc)
+    go (y ∷ w) m None h = cc
+    go (y ∷ w) m (Some other) h = cc
 
 few : (did : Taken) → length (picked did) ≤ 1
 few (TakenOpened o) = go o.picked
@@ -66,7 +71,7 @@ not_shallow s a e = grind (arith, nat_tests)
 
 module _ {S : Type 0} (m : Meaning S) (v : Moves S) where
   -- a taken tag opens an element or closes one
-  counts : (r r' : Run S) (x : Tag) (did : Taken) → OfferPromise m v r x r' (Ok did) → (1 + r'.depth + 2 * r.openings ≡ r.depth + 2 * r'.openings) × (length (picked did) + r.openings ≤ r'.openings)
+  counts : (r r' : Run S) (x : Tag ℕ) (did : Taken) → OfferPromise m v r x r' (Ok did) → (1 + r'.depth + 2 * r.openings ≡ r.depth + 2 * r'.openings) × (length (picked did) + r.openings ≤ r'.openings)
   counts r r' (Open a) (TakenOpened o) h =
       let opens = h.1 in
       let short = few (TakenOpened o) in
@@ -79,9 +84,9 @@ module _ {S : Type 0} (m : Meaning S) (v : Moves S) where
       (omega arith, omega arith)
 
   more : {first : Run S} {source : Source} {list : List ℕ} {r : Run S} {left : Source} {list_now : List ℕ} {n k : ℕ}
-      (r' : Run S) (x : Tag) (did : Taken) (left' : Source) (list' : List ℕ) →
+      (r' : Run S) (x : Tag ℕ) (did : Taken) (left' : Source) (list' : List ℕ) →
       Sofar m v first source list r left list_now n k →
-      Next.Tag x ≡ first_of left → left' ≡ rest_of left → OfferPromise m v r x r' (Ok did) →
+      Ok (Some x) ≡ first_of left → left' ≡ rest_of left → OfferPromise m v r x r' (Ok did) →
       ((q : List ℕ) → k ≡ length q → list_now ≡ laid q list → list' ≡ laid (q ++ picked did) list) →
       Sofar m v first source list r' left' list' (n + 1) (k + length (picked did))
   more {first} {source} {list} {r} {left} {list_now} {n} {k} r' x did left' list' so gave rest h writes =
@@ -107,9 +112,9 @@ module _ {S : Type 0} (m : Meaning S) (v : Moves S) where
       }
 
   pub more_picked : {first : Run S} {source : Source} {list : List ℕ} {r : Run S} {left : Source} {list_now : List ℕ} {n k : ℕ}
-      (r' : Run S) (x : Tag) (did : Taken) (e : ℕ) (left' : Source) (list' : List ℕ) →
+      (r' : Run S) (x : Tag ℕ) (did : Taken) (e : ℕ) (left' : Source) (list' : List ℕ) →
       Sofar m v first source list r left list_now n k →
-      Next.Tag x ≡ first_of left → left' ≡ rest_of left → OfferPromise m v r x r' (Ok did) → picked did ≡ e ∷ [] →
+      Ok (Some x) ≡ first_of left → left' ≡ rest_of left → OfferPromise m v r x r' (Ok did) → picked did ≡ e ∷ [] →
       list' ≡ cond (ltb k (length list_now)) (set list_now k e) list_now →
       Sofar m v first source list r' left' list' (n + 1) (k + 1)
   more_picked {first} {source} {list} {r} {n = n} {k = k} r' x did e left' list' so gave rest h is put =
@@ -118,21 +123,21 @@ module _ {S : Type 0} (m : Meaning S) (v : Moves S) where
       (λ q count written. put ∙ ap₂ (λ k ys. cond (ltb k (length ys)) (set ys k e) ys) count written ∙ sym (laid_more q list e) ∙ ap (λ p. laid (q ++ p) list) (sym is)))
 
   pub more_passed : {first : Run S} {source : Source} {list : List ℕ} {r : Run S} {left : Source} {list_now : List ℕ} {n k : ℕ}
-      (r' : Run S) (x : Tag) (did : Taken) (left' : Source) →
+      (r' : Run S) (x : Tag ℕ) (did : Taken) (left' : Source) →
       Sofar m v first source list r left list_now n k →
-      Next.Tag x ≡ first_of left → left' ≡ rest_of left → OfferPromise m v r x r' (Ok did) → picked did ≡ [] →
+      Ok (Some x) ≡ first_of left → left' ≡ rest_of left → OfferPromise m v r x r' (Ok did) → picked did ≡ [] →
       Sofar m v first source list r' left' list_now (n + 1) k
   more_passed {first} {source} {list} {r} {left} {list_now} {n} {k} r' x did left' so gave rest h is =
       subst (Sofar m v first source list r' left' list_now (n + 1)) (ap (λ p. k + length p) is ∙ add-zero k)
       (more r' x did left' list_now so gave rest h
       (λ q count written. written ∙ ap (λ q. laid q list) (sym (ap (λ p. q ++ p) is ∙ append-nil q))))
 
-  pub ended : {first : Run S} {source : Source} {list : List ℕ} {r : Run S} {left : Source} {list_now : List ℕ} {n k : ℕ}
-      (left' : Source) (e : Ending) →
+  pub ended_so : {first : Run S} {source : Source} {list : List ℕ} {r : Run S} {left : Source} {list_now : List ℕ} {n k : ℕ}
+      (left' : Source) (e : Option Fault) →
       Sofar m v first source list r left list_now n k →
-      Next.End e ≡ first_of left → left' ≡ rest_of left →
-      DrainPromise m v first source list r left' list_now (record { offered = n; picks = k; cause = Ended e })
-  ended {first} {source} {list} {r} {left} {list_now} {n} {k} left' e so gave rest =
+      end_of e ≡ first_of left → left' ≡ rest_of left →
+      DrainPromise m v first source list r left' list_now (record { offered = n; picks = k; end = ended e })
+  ended_so {first} {source} {list} {r} {left} {list_now} {n} {k} left' e so gave rest =
       let last = gave_end left e gave in
       record {
         course = behind n so.picked still;
@@ -140,7 +145,7 @@ module _ {S : Type 0} (m : Meaning S) (v : Moves S) where
         report = record {
           offered = omega arith;
           picks = so.count ∙ ap length (sym (append-nil so.picked));
-          cause = ap Ended (last.1 ∙ so.ending);
+          end = ap ended (last.1 ∙ so.ending);
           waiting = ap (λ s. s.waiting) rest ∙ ap (λ w. (rest_of (record { waiting = w; ending = left.ending })).waiting) last.0;
           ending = ap (λ s. s.ending) rest ∙ so.ending;
           written = so.written ∙ ap (λ q. laid q list) (sym (append-nil so.picked));
@@ -148,10 +153,10 @@ module _ {S : Type 0} (m : Meaning S) (v : Moves S) where
       }
 
   pub refused_so : {first : Run S} {source : Source} {list : List ℕ} {r : Run S} {left : Source} {list_now : List ℕ} {n k : ℕ}
-      (r' : Run S) (x : Tag) (why : Refusal) (left' : Source) →
+      (r' : Run S) (x : Tag ℕ) (why : Refusal) (left' : Source) →
       Sofar m v first source list r left list_now n k →
-      Next.Tag x ≡ first_of left → left' ≡ rest_of left → refusal (standing m r) x ≡ Some why → r' ≡ r →
-      DrainPromise m v first source list r' left' list_now (record { offered = n + 1; picks = k; cause = Refused why (n + 1) })
+      Ok (Some x) ≡ first_of left → left' ≡ rest_of left → refusal (standing m r) x ≡ Some why → r' ≡ r →
+      DrainPromise m v first source list r' left' list_now (record { offered = n + 1; picks = k; end = Err (Refused why (n + 1)) })
   refused_so {first} {source} {list} {r} {left} {list_now} {n} {k} r' x why left' so gave rest e same =
       record {
         course = behind n so.picked (stopped why (rest_of left).waiting);
@@ -161,7 +166,7 @@ module _ {S : Type 0} (m : Meaning S) (v : Moves S) where
         report = record {
           offered = refl;
           picks = so.count ∙ ap length (sym (append-nil so.picked));
-          cause = refl;
+          end = refl;
           waiting = ap (λ s. s.waiting) rest;
           ending = ap (λ s. s.ending) rest ∙ so.ending;
           written = so.written ∙ ap (λ q. laid q list) (sym (append-nil so.picked));

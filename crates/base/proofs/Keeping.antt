@@ -75,7 +75,7 @@ module _ {S : Type 0} (m : Meaning S) (v : Moves S) (rules : Rules m v) (t : Ter
     closed = k.closed i;
   }
 
-  judged_so : {r : Run S} {b : Book} (x : Tag) (o : Option Refusal) → Keeps m t r b → refusal (standing m r) x ≡ o → refusal (judged t b) x ≡ o
+  judged_so : {r : Run S} {b : Book} (x : Tag ℕ) (o : Option Refusal) → Keeps m t r b → refusal (standing m r) x ≡ o → refusal (judged t b) x ≡ o
   judged_so x o k e = ap (λ s. refusal s x) (sym (same_standing k)) ∙ e
 
   open_keeps : {r r' : Run S} {b : Book} (a : ℕ) (o : Opened) → Keeps m t r b → refusal (standing m r) (Open a) ≡ None → Opens v r a r' o → Keeps m t r' (takes t b (Open a)) × (TakenOpened o ≡ taking t b (Open a))
@@ -127,19 +127,19 @@ module _ {S : Type 0} (m : Meaning S) (v : Moves S) (rules : Rules m v) (t : Ter
       close_stands [] c h ne = absurd (ne refl)
       close_stands (x ∷ u) c h ne = rules.close_stands _ _ _ c x u h
 
-  was_taken : (r mid : Run S) (x : Tag) (did : Taken) → OfferPromise m v r x mid (Ok did) → refusal (standing m r) x ≡ None
+  was_taken : (r mid : Run S) (x : Tag ℕ) (did : Taken) → OfferPromise m v r x mid (Ok did) → refusal (standing m r) x ≡ None
   was_taken r mid (Open a) (TakenOpened o) h = h.0
   was_taken r mid (Open a) (TakenClosed n) h = absurd h
   was_taken r mid (Close a) (TakenOpened o) h = absurd h
   was_taken r mid (Close a) (TakenClosed n) h = h.0
 
-  take_keeps : {r mid : Run S} {b : Book} (x : Tag) (did : Taken) → Keeps m t r b → Fits b x → OfferPromise m v r x mid (Ok did) → Keeps m t mid (takes t b x) × (did ≡ taking t b x)
+  take_keeps : {r mid : Run S} {b : Book} (x : Tag ℕ) (did : Taken) → Keeps m t r b → Fits b x → OfferPromise m v r x mid (Ok did) → Keeps m t mid (takes t b x) × (did ≡ taking t b x)
   take_keeps (Open a) (TakenOpened o) k f h = open_keeps a o k h.0 h.1
   take_keeps (Open a) (TakenClosed n) k f h = absurd h
   take_keeps (Close a) (TakenOpened o) k f h = absurd h
   take_keeps (Close a) (TakenClosed n) k f h = close_keeps a n k f h.1
 
-  drain_keeps : {r last : Run S} {xs : List Tag} {c : Course} (b : Book) → Keeps m t r b → Nested t b xs → Drains m v r xs last c → Keeps m t last (drains t b xs) × (c ≡ course t b xs)
+  drain_keeps : {r last : Run S} {xs : List (Tag ℕ)} {c : Course} (b : Book) → Keeps m t r b → Nested t b xs → Drains m v r xs last c → Keeps m t last (drains t b xs) × (c ≡ course t b xs)
   drain_keeps b k n none = (k, refl)
   drain_keeps b k n (refused {x} {xs} {why} e) =
       let e' : refusal (judged t b) x ≡ Some why = judged_so x (Some why) k e in
@@ -151,7 +151,7 @@ module _ {S : Type 0} (m : Meaning S) (v : Moves S) (rules : Rules m v) (t : Ter
       let on = drain_keeps (takes t b x) kept.0 n'.1 rest in
       rw (e, drains, course) (on.0, ap₂ (λ d c. onward (picked d) c) kept.1 on.1)
 
-  offer_right : {r : Run S} {b : Book} (mid : Run S) (x : Tag) (answer : Result Taken Refusal) → Keeps m t r b → Nested t b (x ∷ []) → OfferPromise m v r x mid answer → (answer ≡ answers t b x) × Keeps m t mid (drains t b (x ∷ []))
+  offer_right : {r : Run S} {b : Book} (mid : Run S) (x : Tag ℕ) (answer : Result Taken Refusal) → Keeps m t r b → Nested t b (x ∷ []) → OfferPromise m v r x mid answer → (answer ≡ answers t b x) × Keeps m t mid (drains t b (x ∷ []))
   offer_right {r} {b} mid x (Ok did) k n h =
       let e : refusal (judged t b) x ≡ None = judged_so x None k (was_taken r mid x did h) in
       let fits : Fits b x × Unit {0} = rw (e, Nested) at n in
@@ -162,7 +162,7 @@ module _ {S : Type 0} (m : Meaning S) (v : Moves S) (rules : Rules m v) (t : Ter
       let e : refusal (judged t b) x ≡ Some why = judged_so x (Some why) k no.0 in
       rw (e, drains, answers, no.1) (refl, k)
     where
-      was_refused : (x : Tag) → OfferPromise m v r x mid (Err why) → (refusal (standing m r) x ≡ Some why) × (mid ≡ r)
+      was_refused : (x : Tag ℕ) → OfferPromise m v r x mid (Err why) → (refusal (standing m r) x ≡ Some why) × (mid ≡ r)
       was_refused (Open a) h = h
       was_refused (Close a) h = h
 

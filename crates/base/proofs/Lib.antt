@@ -1,5 +1,5 @@
 pub mod Giving
-pub mod Every
+pub mod Rows
 pub mod Picking
 pub mod Keeping
 pub mod Draining

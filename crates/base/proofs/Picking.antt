@@ -62,11 +62,11 @@ module _ (t : Terms) where
         exactly = λ k. (was k, λ l. ⊎_elim (λ o. o) (λ n. absurd (both_ways _ e n.1)) (is k l));
       })
 
-  took : (b : Book) (ws : List (List ℕ)) (x : Tag) → PickedExactly t.wants ws b → PickedExactly t.wants (ws ++ opens b x) (takes t b x)
+  took : (b : Book) (ws : List (List ℕ)) (x : Tag ℕ) → PickedExactly t.wants ws b → PickedExactly t.wants (ws ++ opens b x) (takes t b x)
   took b ws (Open a) h = opened b ws a h
   took b ws (Close a) h = rw append-nil (record { openings = h.openings; once = h.once; exactly = h.exactly })
 
-  drained : (b : Book) (ws : List (List ℕ)) (xs : List Tag) → PickedExactly t.wants ws b → PickedExactly t.wants (ws ++ paths t b xs) (drains t b xs)
+  drained : (b : Book) (ws : List (List ℕ)) (xs : List (Tag ℕ)) → PickedExactly t.wants ws b → PickedExactly t.wants (ws ++ paths t b xs) (drains t b xs)
   drained b ws [] h = rw append-nil h
   drained b ws (x ∷ xs) h = go (refusal (judged t b) x) (drained (takes t b x) (ws ++ opens b x) xs (took b ws x h))
     where

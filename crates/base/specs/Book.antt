@@ -40,12 +40,12 @@ judged t b = record {
 }
 
 -- what a taken tag answers: the element that it opens, or the depth that it leaves
-abbrev pub taking : Terms → Book → Tag → Taken
+abbrev pub taking : Terms → Book → Tag ℕ → Taken
 taking t b (Open a) = TakenOpened (record { element = b.openings; picked = t.wants (b.path ++ (a ∷ [])) })
 taking t b (Close a) = TakenClosed (length b.path - 1)
 
 -- the book after a tag that is taken
-abbrev pub takes : Terms → Book → Tag → Book
+abbrev pub takes : Terms → Book → Tag ℕ → Book
 takes t b (Open a) = record {
   path = b.path ++ (a ∷ []);
   openings = b.openings + 1;
@@ -60,25 +60,25 @@ takes t b (Close a) = record {
 }
 
 -- what a tag answers: the first refusal that fits, else what taking it does
-abbrev pub answers : Terms → Book → Tag → Result Taken Refusal
+abbrev pub answers : Terms → Book → Tag ℕ → Result Taken Refusal
 answers t b x = elim (refusal (judged t b) x) [ Some why ↦ Err why | None ↦ Ok (taking t b x) ]
 
 -- the book after tags are offered, until one is refused
-abbrev pub drains : Terms → Book → List Tag → Book
+abbrev pub drains : Terms → Book → List (Tag ℕ) → Book
 drains t b [] = b
 drains t b (x ∷ xs) = elim (refusal (judged t b) x) [ Some why ↦ b | None ↦ drains t (takes t b x) xs ]
 
 -- and how they fare, one by one
-abbrev pub course : Terms → Book → List Tag → Course
+abbrev pub course : Terms → Book → List (Tag ℕ) → Course
 course t b [] = still
 course t b (x ∷ xs) = elim (refusal (judged t b) x) [ Some why ↦ stopped why xs | None ↦ onward (picked (taking t b x)) (course t (takes t b x) xs) ]
 
 -- a closing bears the label of the element that it closes
-abbrev pub Fits : Book → Tag → Type 0
+abbrev pub Fits : Book → Tag ℕ → Type 0
 Fits b (Open a) = Unit {0}
 Fits b (Close a) = (u : List ℕ) × (b.path ≡ u ++ (a ∷ []))
 
 -- each closing that is taken does
-abbrev pub Nested : Terms → Book → List Tag → Type 0
+abbrev pub Nested : Terms → Book → List (Tag ℕ) → Type 0
 Nested t b [] = Unit {0}
 Nested t b (x ∷ xs) = elim (refusal (judged t b) x) [ Some why ↦ Unit {0} | None ↦ Fits b x × Nested t (takes t b x) xs ]

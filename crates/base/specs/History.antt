@@ -29,7 +29,7 @@ pub data History {S : Type 0} (m : Meaning S) (v : Moves S) : Run S → List Cal
   drained : {r mid last : Run S} {s s' : Source} {l l' : List ℕ} {answer : Drained} {calls : List Call} → DrainPromise m v r s l mid s' l' answer → History m v mid calls last → History m v r (draining s l s' l' answer ∷ calls) last
 
 -- the tags that a call has to offer
-abbrev pub tags : Call → List Tag
+abbrev pub tags : Call → List (Tag ℕ)
 tags (opening a answer) = Open a ∷ []
 tags (closing a answer) = Close a ∷ []
 tags (draining s l s' l' answer) = s.waiting

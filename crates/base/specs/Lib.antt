@@ -1,4 +1,4 @@
-pub mod Every
+pub mod Rows
 pub mod Stacks
 pub mod Sources
 pub mod TagLines

@@ -1,5 +1,5 @@
 -- The tags and the ending of a text of tag lines.
-use Rattle.std.specs.Prelude.{◌≡◌, ℕ, ◌+◌, ◌<◌, ◌≤◌, List, [], ◌∷◌, length, Ok, Err, Result}
+use Rattle.std.specs.Prelude.{◌≡◌, ℕ, ◌+◌, ◌<◌, ◌≤◌, List, [], ◌∷◌, length, Some, None, Ok, Err, Result}
 use Rattle.automata.specs.declared.tag.Tag.{Tag}
 use Rattle.text.specs.declared.refusal.Refusal.{Refusal}
 use Rattle.text.specs.declared.refusal.Refusal.TheVariants.{TagLine, TooLong}
@@ -8,17 +8,16 @@ use Rattle.text.specs.Pieces.{Pieces, last, next, split}
 use Rattle.base.specs.Sources.{Source}
 use Rattle.base.specs.TagLines.{tag_of}
 use Rattle.base.specs.declared.lines.LineSource.{LineSource}
-use Rattle.base.specs.declared.source.Ending.TheVariants.{Clean, Fault}
 
 -- line n gives its tag and then what follows, or is the fault at which all ends
-abbrev pub tag_then : ℕ → Result Tag Refusal → Source → Source
+abbrev pub tag_then : ℕ → Result (Tag ℕ) Refusal → Source → Source
 tag_then n (Ok tag) later = record { waiting = tag ∷ later.waiting; ending = later.ending }
-tag_then n (Err refusal) later = record { waiting = []; ending = Fault refusal n }
+tag_then n (Err refusal) later = record { waiting = []; ending = Some (record { refusal = refusal; line = n }) }
 
 -- the lines from number n on: nothing follows the last newline, and a last line without one is faulty
 abbrev pub from_line : List (List ℕ) → ℕ → Pieces → Source
-from_line names n (last []) = record { waiting = []; ending = Clean }
-from_line names n (last (b ∷ bytes)) = record { waiting = []; ending = Fault TagLine n }
+from_line names n (last []) = record { waiting = []; ending = None }
+from_line names n (last (b ∷ bytes)) = record { waiting = []; ending = Some (record { refusal = TagLine; line = n }) }
 from_line names n (next bytes ps) = tag_then n (tag_of names bytes) (from_line names (n + 1) ps)
 
 -- a text of tag lines, counted from 1

@@ -7,12 +7,12 @@ use Rattle.automata.specs.declared.tag.Tag.{Tag}
 use Rattle.automata.specs.declared.tag.Tag.TheVariants.{Open, Close}
 
 -- the path of the element that a taken tag opens, if it opens one
-abbrev pub opens : Book → Tag → List (List ℕ)
+abbrev pub opens : Book → Tag ℕ → List (List ℕ)
 opens b (Open a) = (b.path ++ (a ∷ [])) ∷ []
 opens b (Close a) = []
 
 -- the paths of the elements that the tags open, in opening order, until one is refused
-abbrev pub paths : Terms → Book → List Tag → List (List ℕ)
+abbrev pub paths : Terms → Book → List (Tag ℕ) → List (List ℕ)
 paths t b [] = []
 paths t b (x ∷ xs) = elim (refusal (judged t b) x) [ Some why ↦ [] | None ↦ opens b x ++ paths t (takes t b x) xs ]
 

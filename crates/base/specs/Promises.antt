@@ -56,7 +56,7 @@ pub record Closes {S : Type 0} (v : Moves S) (before : Run S) (label : ℕ) (aft
   pub picks : after.picks ≡ before.picks
 
 -- what a tag does to the run, and what comes of it
-abbrev pub OfferPromise : {S : Type 0} → Meaning S → Moves S → Run S → Tag → Run S → Result Taken Refusal → Type 0
+abbrev pub OfferPromise : {S : Type 0} → Meaning S → Moves S → Run S → Tag ℕ → Run S → Result Taken Refusal → Type 0
 OfferPromise m v before (Open a) after (Ok (TakenOpened answer)) = (refusal (standing m before) (Open a) ≡ None) × Opens v before a after answer
 OfferPromise m v before (Open a) after (Ok (TakenClosed left)) = ⊥
 OfferPromise m v before (Close a) after (Ok (TakenOpened answer)) = ⊥
@@ -79,10 +79,10 @@ abbrev pub ClosePromise : {S : Type 0} → Meaning S → Moves S → Run S → �
 ClosePromise m v before label after answer = OfferPromise m v before (Close label) after (as_closed answer)
 
 -- the run is offered the tags one by one, until it refuses one
-pub data Drains {S : Type 0} (m : Meaning S) (v : Moves S) : Run S → List Tag → Run S → Course → Type 0 where
+pub data Drains {S : Type 0} (m : Meaning S) (v : Moves S) : Run S → List (Tag ℕ) → Run S → Course → Type 0 where
   none : {r : Run S} → Drains m v r [] r still
-  refused : {r : Run S} {x : Tag} {xs : List Tag} {why : Refusal} → refusal (standing m r) x ≡ Some why → Drains m v r (x ∷ xs) r (stopped why xs)
-  taken : {r mid last : Run S} {x : Tag} {xs : List Tag} {c : Course} (did : Taken) → OfferPromise m v r x mid (Ok did) → Drains m v mid xs last c → Drains m v r (x ∷ xs) last (onward (picked did) c)
+  refused : {r : Run S} {x : Tag ℕ} {xs : List (Tag ℕ)} {why : Refusal} → refusal (standing m r) x ≡ Some why → Drains m v r (x ∷ xs) r (stopped why xs)
+  taken : {r mid last : Run S} {x : Tag ℕ} {xs : List (Tag ℕ)} {c : Course} (did : Taken) → OfferPromise m v r x mid (Ok did) → Drains m v mid xs last c → Drains m v r (x ∷ xs) last (onward (picked did) c)
 
 pub record DrainPromise {S : Type 0} (m : Meaning S) (v : Moves S) (before : Run S) (source : Source) (list : List ℕ) (after : Run S) (source_after : Source) (list_after : List ℕ) (answer : Drained) : Type 0 where
   pub course : Course

@@ -25,7 +25,7 @@ abbrev pub bad_limit : Standing → Bool
 bad_limit s = s.limit == 0 || (nat_lt 65535 s.limit || nat_lt s.carry s.limit)
 
 -- the tests in their order
-abbrev pub refusal : Standing → Tag → Option Refusal
+abbrev pub refusal : Standing → Tag ℕ → Option Refusal
 refusal s (Open a) = first (
     (bad_limit s, Limit) ∷
     (nat_le s.labels a, Label) ∷

@@ -1,10 +1,10 @@
 -- What the calls of the store do.
-use Rattle.std.specs.Prelude.{◌≡◌, ℕ, ◌+◌, ◌-◌, ◌<◌, min, Bool, true, false, length, Some, None, Option, slice_index_or, slice_set}
+use Rattle.std.specs.Prelude.{◌≡◌, ℕ, ◌+◌, ◌-◌, ◌<◌, length, Some, None, Ok, Err, Option, Result, slice_index_or, slice_set}
 use Rattle.base.specs.declared.stack.Stack.{Stack}
 
 -- how many entries are stored, from the first place on
 abbrev pub used : {T : Type 0} → Stack T → ℕ
-used s = min s.len (length s.places.now)
+used s = s.len
 
 -- x goes to the first free place, and nothing else is written
 pub record Stored {T : Type 0} (before : Stack T) (x : T) (after : Stack T) : Type 0 where
@@ -13,10 +13,10 @@ pub record Stored {T : Type 0} (before : Stack T) (x : T) (after : Stack T) : Ty
   pub used : used after ≡ used before + 1
   pub lent : after.places.ghost_name ≡ before.places.ghost_name
 
--- a full store stays as it is
-abbrev pub Pushes : {T : Type 0} → Stack T → T → Stack T → Bool → Type 0
-Pushes before x after true = Stored before x after
-Pushes before x after false = (used before ≡ length before.places.now) × (after ≡ before)
+-- a full store stays as it is, and gives x back
+abbrev pub Pushes : {T : Type 0} → Stack T → T → Stack T → Result (Unit {0}) T → Type 0
+Pushes before x after (Ok done) = Stored before x after
+Pushes before x after (Err back) = (used before ≡ length before.places.now) × (after ≡ before) × (back ≡ x)
 
 -- x, the last entry, is taken off, and nothing is written
 pub record Taken {T : Type 0} (before : Stack T) (x : T) (after : Stack T) : Type 0 where

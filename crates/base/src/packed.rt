@@ -2,11 +2,10 @@
 ghost use Rattle.std.specs.Prelude.{◌≡◌};
 ghost use Rattle.base.specs.Packed.{packed_tag, packed_holds, Starts};
 
-use crate::source::{Ending, Next, TagSource};
+use crate::source::{Fault, TagSource};
 use automata::tag::Tag;
+use text::MAX_BYTES;
 use text::refusal::Refusal;
-
-const MOST_BYTES: usize = 65_536;
 
 /// The bytes that are left: the low seven bits are the label, the high bit marks a closing.
 #[derive(Drop)]
@@ -31,7 +30,7 @@ impl<'a> PackedSource<'a> {
     pub fn new(bytes: &'a [u8]) -> Result<PackedSource<'a>, Refusal>
         ensures { Starts bytes.now result }
     {
-        if bytes.len() > MOST_BYTES {
+        if bytes.len() > MAX_BYTES {
             return Err(Refusal::TooLong);
         }
         Ok(PackedSource { bytes })
@@ -41,13 +40,11 @@ impl<'a> PackedSource<'a> {
 impl<'a> TagSource for PackedSource<'a> {
     ghost holds = { packed_holds };
 
-    fn next(&mut self) -> Next {
-        match self.bytes {
-            [b, rest @ ..] => {
-                self.bytes = rest;
-                Next::Tag(unpacked(*b))
-            }
-            [] => Next::End(Ending::Clean),
-        }
+    fn next(&mut self) -> Result<Option<Tag>, Fault> {
+        let Some((b, rest)) = self.bytes.split_first() else {
+            return Ok(None);
+        };
+        self.bytes = rest;
+        Ok(Some(unpacked(*b)))
     }
 }

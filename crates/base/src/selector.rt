@@ -2,6 +2,9 @@
 ghost use Rattle.std.specs.Prelude.{◌≡◌};
 ghost use Rattle.automata.specs.Meaning.{Meaning, Moves, Rules};
 
+/// The most levels of open elements that any selector follows.
+pub const MAX_LEVELS: u16 = 65_535;
+
 /// Follows the labels of the open elements, and answers at each opening whether it wants the element's path.
 pub trait Selector {
     ghost meaning: { Meaning Self };

@@ -4,25 +4,18 @@ ghost use Rattle.base.specs.Sources.{Source, Gives};
 use automata::tag::Tag;
 use text::refusal::Refusal;
 
-/// How a source ends: clean, or at a faulty line, counted from 1.
-#[derive(Clone, Copy, PartialEq, Eq)]
-pub enum Ending {
-    Clean,
-    Fault { refusal: Refusal, line: u32 },
+/// A faulty line, counted from 1, and what it is refused for.
+#[derive(Clone, Copy, PartialEq, Eq, Debug)]
+pub struct Fault {
+    pub refusal: Refusal,
+    pub line: u32,
 }
 
-/// What a source gives: a tag, or its ending.
-#[derive(Clone, Copy, PartialEq, Eq)]
-pub enum Next {
-    Tag(Tag),
-    End(Ending),
-}
-
-/// The tags that wait, in order, and then an ending.
+/// The tags that wait, in order, and then an end: clean, or at a faulty line.
 pub trait TagSource {
     ghost holds: { Self → Source };
 
-    /// Takes the first waiting tag out and gives it; with none waiting, the ending, the same each time.
-    fn next(&mut self) -> Next
+    /// Takes the first waiting tag out and gives it; with none waiting, none at a clean end or the fault, the same each time.
+    fn next(&mut self) -> Result<Option<Tag>, Fault>
         ensures { Gives (holds self.old) result (holds self.new) };
 }

@@ -1,8 +1,6 @@
 //! The store: last in, first out, over a lent slice.
 ghost use Rattle.std.specs.Prelude.{◌≡◌, ◌≤◌, length};
 
-// There is no invariant that `len` is within the slice, since the checker does not cover a struct by value (a run) that holds
-// one with both a ghost field and a `&mut`: a larger `len`, which no call makes, counts as a full store.
 /// Entries at the first places of a lent slice, the last one on top.
 #[derive(Drop)]
 pub struct Stack<'a, T> {
@@ -27,7 +25,7 @@ impl<'a, T: Copy> Stack<'a, T> {
     pub fn len(&self) -> usize
         ensures { result ≡ used self.now }
     {
-        self.len.min(self.places.len())
+        self.len
     }
 
     /// How many there is room for.
@@ -37,41 +35,25 @@ impl<'a, T: Copy> Stack<'a, T> {
         self.places.len()
     }
 
-    /// Stores x at the first free place; false where there is none.
-    pub fn push(&mut self, x: T) -> bool
+    /// Stores x at the first free place; a full store gives it back.
+    pub fn push(&mut self, x: T) -> Result<(), T>
         ensures { Pushes self.old x self.new result }
     {
-        if self.len >= self.places.len() {
-            return false;
+        if self.len == self.places.len() {
+            return Err(x);
         }
         self.places[self.len] = x;
         self.len += 1;
-        true
+        Ok(())
     }
 
     /// Takes the last entry off.
     pub fn pop(&mut self) -> Option<T>
         ensures { Pops self.old self.new result }
     {
-        // One test does for an empty store too, since 0 - 1 wraps to the largest number.
-        let at = self.len.wrapping_sub(1);
-        if at >= self.places.len() {
-            return self.pop_last();
-        }
-        self.len = at;
-        Some(self.places[at])
-    }
-
-    // The same by the count, for an empty store and a `len` past the slice.
-    fn pop_last(&mut self) -> Option<T>
-        ensures { Pops self.old self.new result }
-    {
-        let count = self.len();
-        if count == 0 {
-            return None;
-        }
-        self.len = count - 1;
-        Some(self.places[count - 1])
+        let last = self.len.checked_sub(1)?;
+        self.len = last;
+        Some(self.places[last])
     }
 
     /// Takes every entry off; the slice keeps its contents.
@@ -80,6 +62,7 @@ impl<'a, T: Copy> Stack<'a, T> {
     {
         self.len = 0;
     }
+
     /// The slice back.
     pub fn into_places(self) -> &'a mut [T]
         ensures places { result.now ≡ self.entry.places.now }

@@ -8,20 +8,13 @@ use text::labels::Labels;
 use text::names::is_name;
 use text::refusal::Refusal;
 
-/// A tag whose name is a part of its line, before a look-up turns the name into a label.
-#[derive(Clone, Copy)]
-pub enum NamedTag<'a> {
-    Open(&'a [u8]),
-    Close(&'a [u8]),
-}
-
-/// The line's mark, tab and name; none where it does not begin with a mark and a tab.
-pub fn named_tag<'a>(line: &'a [u8]) -> Option<NamedTag<'a>>
+/// The tag that the line's mark and its name make; none where it does not begin with a mark and a tab.
+pub fn named_tag<'a>(line: &'a [u8]) -> Option<Tag<&'a [u8]>>
     ensures { marked_by result ≡ marked line.now }
 {
     match line {
-        [b'+', b'\t', name @ ..] => Some(NamedTag::Open(name)),
-        [b'-', b'\t', name @ ..] => Some(NamedTag::Close(name)),
+        [b'+', b'\t', name @ ..] => Some(Tag::Open(name)),
+        [b'-', b'\t', name @ ..] => Some(Tag::Close(name)),
         _ => None,
     }
 }
@@ -33,10 +26,7 @@ fn label_of(labels: &Labels, name: &[u8]) -> Result<u8, Refusal>
     if !is_name(name) {
         return Err(Refusal::TagLine);
     }
-    match labels.find(name) {
-        Some(label) => Ok(label),
-        None => Err(Refusal::UnknownName),
-    }
+    labels.find(name).ok_or(Refusal::UnknownName)
 }
 
 /// The tag of a line without its newline.
@@ -44,8 +34,8 @@ pub fn tag_of(labels: &Labels, line: &[u8]) -> Result<Tag, Refusal>
     ensures { result ≡ tag_of (names_of labels.now) line.now }
 {
     match named_tag(line) {
-        Some(NamedTag::Open(name)) => Ok(Tag::Open(label_of(labels, name)?)),
-        Some(NamedTag::Close(name)) => Ok(Tag::Close(label_of(labels, name)?)),
+        Some(Tag::Open(name)) => Ok(Tag::Open(label_of(labels, name)?)),
+        Some(Tag::Close(name)) => Ok(Tag::Close(label_of(labels, name)?)),
         None => Err(Refusal::TagLine),
     }
 }

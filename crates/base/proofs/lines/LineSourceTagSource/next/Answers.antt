@@ -2,7 +2,7 @@
 use Rattle.std.proofs.Common.{◌≤◌, length, rules}
 use Rattle.text.specs.Labelled.{names_of}
 use Rattle.base.proofs.Giving.{lines_end, lines_tag, lines_fault}
-use Rattle.base.proofs.lines.next.LineSourceTagSource.next.Goals as goal
+use Rattle.base.proofs.lines.LineSourceTagSource.next.Goals as goal
 
 pub returns-then-is_empty : goal.returns-then-is_empty
 returns-then-is_empty c =

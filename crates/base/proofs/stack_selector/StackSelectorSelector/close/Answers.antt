@@ -1,7 +1,7 @@
 -- An empty store stays, and with it the selector.
 use Rattle.std.proofs.Common.{rules}
 use Rattle.base.proofs.Same.{same_store}
-use Rattle.base.proofs.stack_selector.moves.StackSelectorSelector.close.Goals as goal
+use Rattle.base.proofs.stack_selector.StackSelectorSelector.close.Goals as goal
 
 pub returns-in_default : goal.returns-in_default
 returns-in_default c = record {
