@@ -8,7 +8,6 @@ use Rattle.base.specs.Sources.{Source, Gives}
 use Rattle.base.specs.TagLines.{opens, closes, marked, tag_of}
 use Rattle.base.specs.Lines.{tag_then, from_line}
 use Rattle.base.specs.Packed.{packed_tag, packed_source}
-use Rattle.base.specs.declared.source.Fault.{Fault}
 
 pub packed_end : (bytes : List ℕ) → length bytes ≤ 0 → Gives (packed_source bytes) (Ok None) (packed_source bytes)
 packed_end [] h = record { given = refl; left = refl }

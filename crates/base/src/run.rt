@@ -114,36 +114,29 @@ impl<S: Selector> Run<S> {
     {
         let mut offered = 0;
         let mut picks = 0;
-        loop {
+        let end = loop {
             let tag = match source.next() {
                 Ok(Some(tag)) => tag,
-                Ok(None) => return Drained {
-                    offered,
-                    picks,
-                    end: Ok(()),
-                },
-                Err(fault) => return Drained {
-                    offered,
-                    picks,
-                    end: Err(Cause::Fault(fault)),
-                },
+                Ok(None) => break Ok(()),
+                Err(fault) => break Err(Cause::Fault(fault)),
             };
             offered += 1;
             let did = match self.offer(tag) {
                 Ok(did) => did,
-                Err(refusal) => return Drained {
-                    offered,
-                    picks,
-                    end: Err(Cause::Refused {
-                        refusal,
-                        tag: offered,
-                    }),
-                },
+                Err(refusal) => break Err(Cause::Refused {
+                    refusal,
+                    tag: offered,
+                }),
             };
             if let Some(element) = did.picked() {
                 put(list, picks as usize, element);
                 picks += 1;
             }
+        };
+        Drained {
+            offered,
+            picks,
+            end,
         }
     }
 
