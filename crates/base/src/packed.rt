@@ -13,7 +13,7 @@ pub struct PackedSource<'a> {
     bytes: &'a [u8],
 }
 
-// The tag that a byte stands for.
+// The tag that a byte stands for. No `From`: neither type is this crate's.
 fn unpacked(b: u8) -> Tag
     ensures { result ≡ packed_tag b }
 {

@@ -29,6 +29,7 @@ pub struct Run<S> {
     ghost bounded: { (depth ≤ limit) × (depth ≤ openings) × (picks ≤ openings) × (openings ≤ 1000000) },
 }
 
+// A flag and no `Option`: an element that is not picked has its number too.
 /// An element that was opened: its number, and whether the selector wants it.
 #[derive(Clone, Copy, PartialEq, Eq, Debug)]
 pub struct Opened {

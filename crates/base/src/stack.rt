@@ -1,6 +1,7 @@
 //! The store: last in, first out, over a lent slice.
 ghost use Rattle.std.specs.Prelude.{◌≡◌, ◌≤◌, length};
 
+// A count beside the slice, and no `Vec`: the memory is lent, for there is no heap.
 /// Entries at the first places of a lent slice, the last one on top.
 #[derive(Drop)]
 pub struct Stack<'a, T> {

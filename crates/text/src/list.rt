@@ -3,6 +3,7 @@ ghost use Rattle.std.specs.Prelude.{◌≤◌};
 
 use std::alloc::AllocError;
 
+// A count beside the array, and no `Vec`, for there is no heap.
 /// At most N items, at the first `len` places of an array; the places past them mean nothing.
 pub struct ArrayList<T, const N: usize> {
     places: [T; N],

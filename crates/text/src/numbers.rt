@@ -1,5 +1,6 @@
 ghost use Rattle.text.specs.Numbers.{Number};
 
+// Not by `parse`, which takes a sign and leading zeros too.
 /// The number up to 255 whose decimal text the field is.
 pub fn read_number(field: &[u8]) -> Option<u8>
     ensures { Number field.now result }
