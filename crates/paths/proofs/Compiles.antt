@@ -26,12 +26,12 @@ every_from : {X : Type 0} (test : X → Bool) (xs : List X) (d : X) → ((i : �
 every_from test [] d h = refl
 every_from test (x ∷ xs) d h = and_from _ _ (h 0 (omega arith)) (every_from test xs d (λ i k. h (suc i) (omega arith)))
 
-module _ (steps : List Step) (n : ℕ) (sets : List ℕ) (m : ℕ) (targets : List (List ℕ)) (answers : List Bool) (labels : (1 ≤ n) × (n ≤ 16)) (states : (1 ≤ m) × (m ≤ 32)) (scanned : Scanned steps n targets m sets m) where
+module _ (steps : List Step) (n : ℕ) (sets : List ℕ) (m : ℕ) (targets : List (List ℕ)) (answers : List Bool) (labels : (1 ≤ n) × (n ≤ 16)) (states : (1 ≤ m) × (m ≤ 32)) (all : m ≡ length sets) (scanned : Scanned steps n targets m sets) where
   abbrev parts : Parts
   parts = record { labels = n; states = m; start = 0; targets = targets; accepting = answers }
 
   within : (p a : ℕ) → p < m → a < n → target targets p a < m
-  within p a h k = omega (arith, scanned.counts, rows_meet n (target targets) m p a h k)
+  within p a h k = omega (arith, all, scanned.counts, rows_meet n (target targets) m p a h k)
 
   rows : rows_each_below n m (take m targets) ≡ true
   rows = every_from (λ row. each_below m (take n row)) (take m targets) [] (λ p h.
@@ -66,8 +66,8 @@ module _ (steps : List Step) (n : ℕ) (sets : List ℕ) (m : ℕ) (targets : Li
       labels = refl;
       formed = formed;
       named = named;
-      reached = λ p h. set_reachable steps made formed named p h (scanned.reached p h);
-      numbered = record { start = refl; next = scanned.next; whole = sym scanned.counts };
+      reached = λ p h. set_reachable steps made formed named p h (scanned.reached p (omega arith));
+      numbered = record { start = refl; next = scanned.next; whole = sym scanned.counts ∙ sym all };
       few = few_sets steps made formed named 32 states.1;
       follows = follows_path steps made formed named;
     }

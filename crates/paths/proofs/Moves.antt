@@ -1,27 +1,20 @@
 -- Where a label leads from a set, position by position.
-use Rattle.std.proofs.Common.{◌≡◌, ℕ, suc, ◌+◌, ◌<◌, Bool, true, false, ◌⊎◌, ◌↔◌, List, length, get_or, sym, ◌∙◌, subst, inl, inr, ⊎_elim, add-one, arith}
+use Rattle.std.proofs.Common.{◌≡◌, ℕ, ◌+◌, ◌<◌, false, ◌⊎◌, ◌↔◌, List, length, get_or, sym, ap, ◌∙◌, subst, inl, inr, ⊎_elim, arith}
 use Rattle.std.proofs.lemmas.List.{get_or-map}
 use Rattle.paths.specs.Meanings.{fits}
 use Rattle.std.proofs.lemmas.Bool.{cases_lt}
 use Rattle.paths.specs.declared.path.Step.{Step}
-use Rattle.paths.specs.Positions.{Holds, keeps, takes, Goes, Moved}
+use Rattle.paths.specs.Positions.{Holds, keeps, takes, StepGoes, Goes, Moved}
 use Rattle.paths.proofs.Follow.{goes_before}
 use Rattle.paths.proofs.Masks.{same_set}
 
--- the positions that a label leads to from position j, added to a set: the step's own, then the next
-pub goes_on : (steps : List Step) (a j : ℕ) (d : Step) → j < length steps → (m k n : ℕ) (b : Bool) → ((i : ℕ) → Holds k i ↔ (Holds m i ⊎ ((i ≡ j) × ((get_or steps j d).descend ≡ true)))) → b ≡ fits (get_or steps j d).test a → ((i : ℕ) → Holds n i ↔ (Holds k i ⊎ ((i ≡ j + 1) × (b ≡ true)))) → (i : ℕ) → Holds n i ↔ (Holds m i ⊎ Goes steps a j i)
-goes_on steps a j d in' m k n b kept is next i =
+-- where a label leads from position j, by the step behind it
+pub goes_by : (steps : List Step) (a j : ℕ) (d : Step) → j < length steps → (i : ℕ) → StepGoes (get_or steps j d) a j i ↔ Goes steps a j i
+goes_by steps a j d in' i =
     let keep : keeps steps j ≡ (get_or steps j d).descend = get_or-map (λ s. s.descend) steps j d false in' in
-    let take : takes steps a j ≡ b = get_or-map (λ s. fits s.test a) steps j d false in' ∙ sym is in (
-      λ h. ⊎_elim
-          (λ t. ⊎_elim inl (λ (o : (i ≡ j) × ((get_or steps j d).descend ≡ true)). inr (inl (o.0, keep ∙ o.1))) ((kept i).0 t))
-          (λ (o : (i ≡ j + 1) × (b ≡ true)). inr (inr (o.0 ∙ add-one j, take ∙ o.1)))
-          ((next i).0 h),
-      ⊎_elim
-          (λ t. (next i).1 (inl ((kept i).1 (inl t))))
-          (⊎_elim
-          (λ (o : (i ≡ j) × (keeps steps j ≡ true)). (next i).1 (inl ((kept i).1 (inr (o.0, sym keep ∙ o.1)))))
-          (λ (o : (i ≡ suc j) × (takes steps a j ≡ true)). (next i).1 (inr (o.0 ∙ sym (add-one j), sym take ∙ o.1)))),
+    let take : takes steps a j ≡ fits (get_or steps j d).test a = get_or-map (λ s. fits s.test a) steps j d false in' in (
+      ⊎_elim (λ o. inl (o.0, keep ∙ o.1)) (λ o. inr (o.0, take ∙ o.1)),
+      ⊎_elim (λ o. inl (o.0, sym keep ∙ o.1)) (λ o. inr (o.0, sym take ∙ o.1)),
     )
 
 module _ (steps : List Step) (a m : ℕ) where
@@ -46,6 +39,13 @@ module _ (steps : List Step) (a m : ℕ) where
         (λ past. let e : o.0 ≡ j = omega (arith, o.1) in (more i).1 (inr (subst (λ k. Goes steps a k i) e o.3)))
         (cases_lt o.0 j),
   )
+
+  -- the same, by the step behind position j
+  pub from_step : (j n l : ℕ) (xs : List Step) (d : Step) → xs ≡ steps → j < length xs → From j n → Holds m j → ((i : ℕ) → Holds l i ↔ (Holds n i ⊎ StepGoes (get_or xs j d) a j i)) → From (j + 1) l
+  from_step j n l xs d e in' h held more = from_take j n l h held (λ i.
+      let g = goes_by steps a j d (omega (arith, ap length e)) i in
+      let o = subst (λ ys. Holds l i ↔ (Holds n i ⊎ StepGoes (get_or ys j d) a j i)) e (more i) in
+      (λ x. ⊎_elim inl (λ s. inr (g.0 s)) (o.0 x), ⊎_elim (λ y. o.1 (inl y)) (λ y. o.1 (inr (g.1 y)))))
 
   pub from_all : (n : ℕ) → From (length steps) n → Moved steps a m n
   from_all n h i = (λ s. let o = (h i).0 s in (o.0, o.2, o.3), λ o. (h i).1 (o.0, goes_before steps a o.0 i o.2, o.1, o.2))

@@ -1,34 +1,39 @@
 -- One more row of the scan, and what stops it.
-use Rattle.std.proofs.Common.{◌≡◌, ℕ, ◌+◌, ◌<◌, ◌≤◌, cond, ltb, ◌≢◌, List, [], length, get_or, set, sym, refl, ap, ◌∙◌, subst, ⊎_elim, add-one, arith, below_more}
-use Rattle.std.proofs.lemmas.List.{get_or-set_same, get_or-set_other}
+use Rattle.std.proofs.Common.{◌≡◌, ℕ, ◌+◌, ◌<◌, ◌≤◌, cond, ltb, ◌≢◌, List, [], ◌∷◌, length, get_or, set, sym, refl, ap, ◌∙◌, subst, ⊎_elim, add-one, arith, below_more}
+use Rattle.std.proofs.lemmas.List.{get_or-set_same, get_or-set_other, length-take}
 use Rattle.std.proofs.lemmas.Bool.{cases_lt, cond-true, lt-ltb}
 use Rattle.paths.specs.declared.path.Step.{Step}
 use Rattle.automata.specs.Numbering.{met_in_row, met}
 use Rattle.paths.specs.Positions.{start_set, Moved, Reached, at_start, by_label, MoreThan}
+use Rattle.paths.specs.declared.sets.Sets.{Sets}
+use Rattle.paths.specs.Sets.{sets_of}
 use Rattle.paths.specs.Scans.{Row, Stuck, target, Scanned}
 use Rattle.automata.proofs.Meeting.{row_grows, row_same, rows_same, rows_meet}
 
+pub sets_fit : (s : Sets) → length (sets_of s) ≤ 32
+sets_fit s = omega (arith, length-take s.sets.len s.sets.places, s.sets.fits)
+
 module _ (steps : List Step) (labels : ℕ) where
-  pub scan_none : (targets : List (List ℕ)) (sets : List ℕ) (n : ℕ) → n ≡ 1 → get_or sets 0 0 ≡ start_set → Scanned steps labels targets 0 sets n
-  scan_none targets sets n one start = record {
+  pub scan_none : (targets : List (List ℕ)) (sets : List ℕ) → sets ≡ start_set ∷ [] → Scanned steps labels targets 0 sets
+  scan_none targets sets one = record {
     below = omega arith;
-    start = start;
+    start = ap (λ xs. get_or xs 0 0) one;
     moves = λ q a h. absurd (omega arith);
     next = λ q a h. absurd (omega arith);
-    counts = one;
-    reached = λ q h. let e : q ≡ 0 = omega arith in subst (λ i. Reached steps labels (get_or sets i 0)) (sym e) (subst (Reached steps labels) (sym start) at_start);
+    counts = ap length one;
+    reached = λ q h. let e : q ≡ 0 = omega (arith, ap length one) in subst (λ i. Reached steps labels (get_or sets i 0)) (sym e) (subst (Reached steps labels) (sym (ap (λ xs. get_or xs 0 0) one)) at_start);
   }
 
   -- the sets that a part of a row meets are reached
-  row_reached : (from : ℕ) (old : List ℕ) (n a : ℕ) (row new : List ℕ) (m : ℕ) → Reached steps labels from → ((q : ℕ) → q < n → Reached steps labels (get_or old q 0)) → a ≤ labels → Row steps from old n a row new m → (q : ℕ) → q < m → Reached steps labels (get_or new q 0)
-  row_reached from old n a row new m base before part h q k = ⊎_elim
-      (λ (less : q < n). subst (Reached steps labels) (sym (h.kept q less)) (before q less))
-      (λ (past : n ≤ q). let o = h.led q past k in by_label base (omega (arith, o.1)) o.2)
-      (cases_lt q n)
+  row_reached : (from : ℕ) (old : List ℕ) (a : ℕ) (row new : List ℕ) → Reached steps labels from → ((q : ℕ) → q < length old → Reached steps labels (get_or old q 0)) → a ≤ labels → Row steps from old a row new → (q : ℕ) → q < length new → Reached steps labels (get_or new q 0)
+  row_reached from old a row new base before part h q k = ⊎_elim
+      (λ (less : q < length old). subst (Reached steps labels) (sym (h.kept q less)) (before q less))
+      (λ (past : length old ≤ q). let o = h.led q past k in by_label base (omega (arith, o.1)) o.2)
+      (cases_lt q (length old))
 
-  pub scan_more : (targets : List (List ℕ)) (p : ℕ) (old : List ℕ) (n : ℕ) (row new : List ℕ) (m : ℕ) → p < length targets → p < n → Scanned steps labels targets p old n → Row steps (get_or old p 0) old n labels row new m → Scanned steps labels (set targets p row) (p + 1) new m
-  scan_more targets p old n row new m room less h r = record {
-    below = omega (arith, r.counts, row_grows (λ a. get_or row a 0) n labels);
+  pub scan_more : (targets : List (List ℕ)) (p : ℕ) (old row new : List ℕ) → p < length targets → p < length old → Scanned steps labels targets p old → Row steps (get_or old p 0) old labels row new → Scanned steps labels (set targets p row) (p + 1) new
+  scan_more targets p old row new room less h r = record {
+    below = omega (arith, r.counts, row_grows (λ a. get_or row a 0) (length old) labels);
     start = r.kept 0 (omega arith) ∙ h.start;
     moves = λ q a i j. below_more (λ q. Moved steps a (get_or new q 0) (get_or new (after q a) 0)) p
         (λ q k. leads a q (target targets q a) (after q a) (omega arith) (omega (arith, h.counts, rows_meet labels (target targets) p q a k j)) (sym (other q a k)) (h.moves q a k j))
@@ -36,10 +41,10 @@ module _ (steps : List Step) (labels : ℕ) where
         q i;
     next = λ q a i j. below_more (λ q. after q a ≤ met_in_row (after q) (met labels after q) a) p
         (λ q k. omega (arith, other q a k, h.next q a k j, row_same (after q) (target targets q) _ _ a (before q (omega arith)) (λ b _. other q b k)))
-        (omega (arith, here a, r.next a j, row_same (after p) (λ b. get_or row b 0) (met labels after p) n a met_p (λ b _. here b)))
+        (omega (arith, here a, r.next a j, row_same (after p) (λ b. get_or row b 0) (met labels after p) (length old) a met_p (λ b _. here b)))
         q i;
-    counts = r.counts ∙ sym (row_same (after p) (λ b. get_or row b 0) (met labels after p) n labels met_p (λ b _. here b)) ∙ ap (met labels after) (sym (add-one p));
-    reached = row_reached (get_or old p 0) old n labels row new m (h.reached p less) h.reached (omega arith) r;
+    counts = r.counts ∙ sym (row_same (after p) (λ b. get_or row b 0) (met labels after p) (length old) labels met_p (λ b _. here b)) ∙ ap (met labels after) (sym (add-one p));
+    reached = row_reached (get_or old p 0) old labels row new (h.reached p less) h.reached (omega arith) r;
   }
     where
       after : ℕ → ℕ → ℕ
@@ -54,10 +59,10 @@ module _ (steps : List Step) (labels : ℕ) where
       before : (q : ℕ) → q ≤ p → met labels after q ≡ met labels (target targets) q
       before q k = rows_same labels after (target targets) q (λ r a i _. other r a (omega arith))
 
-      met_p : met labels after p ≡ n
+      met_p : met labels after p ≡ length old
       met_p = before p (omega arith) ∙ sym h.counts
 
-      leads : (a q t u : ℕ) → q < n → t < n → t ≡ u → Moved steps a (get_or old q 0) (get_or old t 0) → Moved steps a (get_or new q 0) (get_or new u 0)
+      leads : (a q t u : ℕ) → q < length old → t < length old → t ≡ u → Moved steps a (get_or old q 0) (get_or old t 0) → Moved steps a (get_or new q 0) (get_or new u 0)
       leads a q t u i j e s = subst (λ x. Moved steps a (get_or new q 0) (get_or new x 0)) e (subst (λ x. Moved steps a x (get_or new t 0)) (sym (r.kept q i)) (subst (Moved steps a (get_or old q 0)) (sym (r.kept t j)) s))
 
   -- the sets met, and one more
@@ -65,15 +70,15 @@ module _ (steps : List Step) (labels : ℕ) where
   one_over new over q = cond (ltb q 32) (get_or new q 0) over
 
   -- a row that leads to one set too many
-  pub scan_stuck : (targets : List (List ℕ)) (p : ℕ) (old : List ℕ) (n : ℕ) (new : List ℕ) (m : ℕ) → p < n → ((p q : ℕ) → p < q → q < m → get_or new p 0 ≢ get_or new q 0) → Scanned steps labels targets p old n → Stuck steps labels (get_or old p 0) old n new m → MoreThan 32 steps labels
-  scan_stuck targets p old n new m less distinct h s = record {
+  pub scan_stuck : (targets : List (List ℕ)) (p : ℕ) (old new : List ℕ) → p < length old → ((p q : ℕ) → p < q → q < length new → get_or new p 0 ≢ get_or new q 0) → Scanned steps labels targets p old → Stuck steps labels (get_or old p 0) old new → MoreThan 32 steps labels
+  scan_stuck targets p old new less distinct h s = record {
     set = one_over new s.over;
     distinct = λ q r i j. below_more (λ r. (q : ℕ) → q < r → one_over new s.over q ≢ one_over new s.over r) 32
         (λ r k q l e. distinct q r l (omega (arith, s.full.taken)) (sym (inside q (omega arith)) ∙ e ∙ inside r k))
         (λ q l e. s.full.other q (omega (arith, s.full.taken)) (sym (inside q l) ∙ e ∙ last))
         r j q i;
     reached = below_more (λ q. Reached steps labels (one_over new s.over q)) 32
-        (λ q k. subst (Reached steps labels) (sym (inside q k)) (row_reached (get_or old p 0) old n s.label s.row new m (h.reached p less) h.reached (omega (arith, s.before)) s.scanned q (omega (arith, s.full.taken))))
+        (λ q k. subst (Reached steps labels) (sym (inside q k)) (row_reached (get_or old p 0) old s.label s.row new (h.reached p less) h.reached (omega (arith, s.before)) s.scanned q (omega (arith, s.full.taken))))
         (subst (Reached steps labels) (sym last) (by_label (h.reached p less) s.before s.leads));
   }
     where

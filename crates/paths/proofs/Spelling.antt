@@ -1,10 +1,10 @@
 -- The first step of a text, and that no other can be read.
-use Rattle.std.proofs.Common.{◌≡◌, ℕ, zero, suc, ◌+◌, ◌-◌, ◌<◌, ◌≤◌, Bool, true, false, cond, ◌≢◌, List, [], ◌∷◌, ◌++◌, length, get_or, take, drop, Some, None, Decides, Option, sym, refl, ap, ◌∙◌, subst, append_assoc, arith, take-append-drop}
+use Rattle.std.proofs.Common.{◌≡◌, ℕ, zero, suc, ◌<◌, Bool, true, false, cond, ◌≢◌, List, [], ◌∷◌, ◌++◌, length, take, drop, Some, None, Option, sym, refl, ap, ◌∙◌, subst, append_assoc, arith, length-append, take-append-drop}
 use Rattle.std.specs.List.{AllByRecursion}
 use Rattle.std.specs.Str.{bytes_eq}
 use Rattle.std.proofs.ByRecursion.{All-from_get_or}
 use Rattle.std.proofs.lemmas.Slice.Eq.{bytes_eq-Decides}
-use Rattle.std.proofs.lemmas.List.{get_or-take, length-take-le, take_rest}
+use Rattle.std.proofs.lemmas.List.{get_or-take, length-take-le}
 use Rattle.std.proofs.lemmas.Bool.{and_parts, false≢true}
 use Rattle.text.specs.Names.{name_byte, all_name_bytes, is_name}
 use Rattle.text.specs.NameLists.{all_names, shifted, place}
@@ -13,13 +13,6 @@ use Rattle.paths.specs.declared.path.Test.{Test}
 use Rattle.paths.specs.declared.path.Test.TheVariants.{Any}
 use Rattle.paths.specs.FirstSteps.{Unopened, Opens, Front, First}
 use Rattle.paths.specs.Texts.{slash, star, slashes, label_test, test_of, Written, Unread}
-
-pub opens_at : (text : List ℕ) (d : Bool) → get_or text 0 0 ≡ slash → Decides d (get_or text 1 0 ≡ slash) → Opens text d
-opens_at [] d h o = absurd (omega arith)
-opens_at (b ∷ []) true h o = absurd (omega (arith, o.0 refl))
-opens_at (b ∷ []) false h o = record { tail = []; whole = ap (λ x. x ∷ []) h; alone = λ _. tt }
-opens_at (b ∷ c ∷ bs) true h o = record { tail = bs; whole = ap (λ x. x ∷ c ∷ bs) h ∙ ap (λ x. slash ∷ x ∷ bs) (o.0 refl); alone = λ e. absurd (false≢true (sym e)) }
-opens_at (b ∷ c ∷ bs) false h o = record { tail = c ∷ bs; whole = ap (λ x. x ∷ c ∷ bs) h; alone = λ _ e. false≢true (o.1 e) }
 
 -- the text is at its end, or at a slash
 abbrev Ends : List ℕ → Type 0
@@ -39,14 +32,6 @@ front_ends [] zero h = tt
 front_ends [] (suc n) h = tt
 front_ends (b ∷ bs) zero h = h.ends (omega arith)
 front_ends (b ∷ bs) (suc n) h = front_ends bs n (record { within = omega (arith, h.within); clean = λ k l. h.clean (suc k) (omega arith); ends = λ l. h.ends (omega arith) })
-
--- what stands behind the slashes, as the code cuts it
-pub tail_is : (text : List ℕ) (d : Bool) (o : Opens text d) (from : ℕ) → from ≡ length (slashes d) → take (length text - from) (drop from text) ≡ o.tail
-tail_is text d o from e = take_rest text from ∙ (λ i. drop (e i) (o.whole i)) ∙ behind d
-  where
-    behind : (c : Bool) → drop (length (slashes c)) (slashes c ++ o.tail) ≡ o.tail
-    behind true = refl
-    behind false = refl
 
 -- a text is cut at its first slash in one way
 split : (w v u t : List ℕ) → Clean w → Clean v → Ends u → Ends t → w ++ u ≡ v ++ t → (w ≡ v) × (u ≡ t)
@@ -142,53 +127,47 @@ module _ (names : List (List ℕ)) (rule : all_names names ≡ true) where
       λ i. record { descend = same.descend i; test = test i } ∷ rest i
 
   -- a text whose opening and first word are found
-  module _ (text : List ℕ) (d : Bool) (o : Opens text d) (n : ℕ) (front : Front o.tail n) where
-    agree : (s : Step) (ss : List Step) → Written names (s ∷ ss) text → Same d (take n o.tail) (drop n o.tail) s ss
+  module _ (text : List ℕ) (d : Bool) (tail : List ℕ) (o : Opens text d tail) (n : ℕ) (front : Front tail n) where
+    whole : text ≡ slashes d ++ (take n tail ++ drop n tail)
+    whole = o.whole ∙ ap (λ x. slashes d ++ x) (sym (take-append-drop n tail))
+
+    agree : (s : Step) (ss : List Step) → Written names (s ∷ ss) text → Same d (take n tail) (drop n tail) s ss
     agree s ss h =
-        let whole : text ≡ slashes d ++ (take n o.tail ++ drop n o.tail) = o.whole ∙ ap (λ x. slashes d ++ x) (sym (take-append-drop n o.tail)) in
-        same_first d (take n o.tail) (drop n o.tail) (λ e. subst Unopened (sym (take-append-drop n o.tail)) (o.alone e)) (front_clean o.tail n front) (front_ends o.tail n front) s ss (subst (Written names (s ∷ ss)) whole h)
+        same_first d (take n tail) (drop n tail) (λ e. subst Unopened (sym (take-append-drop n tail)) (o.alone e)) (front_clean tail n front) (front_ends tail n front) s ss (subst (Written names (s ∷ ss)) whole h)
 
     opened : text ≢ []
     opened e = none d (sym o.whole ∙ e)
       where
-        none : (c : Bool) → slashes c ++ o.tail ≢ []
+        none : (c : Bool) → slashes c ++ tail ≢ []
         none true z = let k : ◌≡◌ {A = ℕ} 0 1 = cc in omega arith
         none false z = let k : ◌≡◌ {A = ℕ} 0 1 = cc in omega arith
 
-    pub first_unnamed : None ≡ test_of names (take n o.tail) → Unread names text
+    pub first_unnamed : None ≡ test_of names (take n tail) → Unread names text
     first_unnamed z [] h = opened h
     first_unnamed z (s ∷ ss) h = let two : None ≡ Some s.test = z ∙ (agree s ss h).stands in let k : ◌≡◌ {A = ℕ} 0 1 = cc in omega arith
 
-    pub first_made : (t : Test) → Some t ≡ test_of names (take n o.tail) → First names text (record { descend = d; test = t }) (length (slashes d) + n)
+    pub first_made : (t : Test) → Some t ≡ test_of names (take n tail) → First names text (record { descend = d; test = t }) (drop n tail)
     first_made t stands = record {
-      some = some_slashes d;
-      within = subst (λ x. length (slashes d) + n ≤ length x) (sym o.whole) (room d);
-      spells = record { word = take n o.tail; whole = ap (take (length (slashes d) + n)) o.whole ∙ taken d; stands = sym stands };
+      own = slashes d ++ take n tail;
+      whole = whole ∙ sym (append_assoc (slashes d) (take n tail) (drop n tail));
+      spells = record { word = take n tail; whole = refl; stands = sym stands };
       only = only;
     }
       where
-        some_slashes : (c : Bool) → 0 < length (slashes c) + n
-        some_slashes true = omega arith
-        some_slashes false = omega arith
-
-        room : (c : Bool) → length (slashes c) + n ≤ length (slashes c ++ o.tail)
-        room true = omega (arith, front.within)
-        room false = omega (arith, front.within)
-
-        taken : (c : Bool) → take (length (slashes c) + n) (slashes c ++ o.tail) ≡ slashes c ++ take n o.tail
-        taken true = let e : 2 + n ≡ suc (suc n) = omega arith in ap (λ k. take k (slash ∷ slash ∷ o.tail)) e
-        taken false = let e : 1 + n ≡ suc n = omega arith in ap (λ k. take k (slash ∷ o.tail)) e
-
-        dropped : (c : Bool) → drop (length (slashes c) + n) (slashes c ++ o.tail) ≡ drop n o.tail
-        dropped true = let e : 2 + n ≡ suc (suc n) = omega arith in ap (λ k. drop k (slash ∷ slash ∷ o.tail)) e
-        dropped false = let e : 1 + n ≡ suc n = omega arith in ap (λ k. drop k (slash ∷ o.tail)) e
-
-        only : (ss : List Step) → Written names ss text → (us : List Step) × (ss ≡ record { descend = d; test = t } ∷ us) × Written names us (drop (length (slashes d) + n) text)
+        only : (ss : List Step) → Written names ss text → (us : List Step) × (ss ≡ record { descend = d; test = t } ∷ us) × Written names us (drop n tail)
         only [] h = absurd (opened h)
         only (s ∷ ss) h =
             let same = agree s ss h in
             let test : s.test ≡ t = cc (same.stands, stands) in
-            (ss, (λ i. record { descend = sym same.descend i; test = test i } ∷ ss), subst (Written names ss) (sym (ap (drop (length (slashes d) + n)) o.whole ∙ dropped d)) same.written)
+            (ss, (λ i. record { descend = sym same.descend i; test = test i } ∷ ss), same.written)
+
+  -- a step takes up at least its slash
+  pub first_shorter : (text : List ℕ) (s : Step) (rest : List ℕ) → First names text s rest → length rest < length text
+  first_shorter text s rest f = slashed s.descend (f.whole ∙ ap (λ x. x ++ rest) f.spells.whole)
+    where
+      slashed : (d : Bool) → text ≡ (slashes d ++ f.spells.word) ++ rest → length rest < length text
+      slashed true e = omega (arith, simp length-append at (ap length e))
+      slashed false e = omega (arith, simp length-append at (ap length e))
 
   pub unopened_unread : (text : List ℕ) → Unopened text → 0 < length text → Unread names text
   unopened_unread [] h k ss w = omega arith

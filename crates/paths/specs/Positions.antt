@@ -20,6 +20,10 @@ keeps steps j = slice_index_or (map (λ s. s.descend) steps) j false
 abbrev pub takes : List Step → ℕ → ℕ → Bool
 takes steps a j = slice_index_or (map (λ s. fits s.test a) steps) j false
 
+-- the label a leads past the step s from the position j before it to i: behind a step that fits it, or to j itself where the step is `//`
+abbrev pub StepGoes : Step → ℕ → ℕ → ℕ → Type 0
+StepGoes s a j i = ((i ≡ j) × (s.descend ≡ true)) ⊎ ((i ≡ suc j) × (fits s.test a ≡ true))
+
 -- the label a leads from position j to i: past a step that fits it, or to j itself where the step is `//`
 abbrev pub Goes : List Step → ℕ → ℕ → ℕ → Type 0
 Goes steps a j i = ((i ≡ j) × (keeps steps j ≡ true)) ⊎ ((i ≡ suc j) × (takes steps a j ≡ true))

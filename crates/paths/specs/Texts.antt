@@ -1,6 +1,7 @@
 -- How a path is written: each step as `/` or `//`, and then a label's name or `*`.
-use Rattle.std.specs.Prelude.{◌≡◌, ℕ, ◌<◌, ◌≤◌, Bool, true, false, cond, List, [], ◌∷◌, ◌++◌, length, take, Some, None, Option}
+use Rattle.std.specs.Prelude.{◌≡◌, ℕ, ◌<◌, ◌≤◌, Bool, true, false, cond, List, [], ◌∷◌, ◌++◌, length, Some, None, Option}
 use Rattle.std.specs.Str.{bytes_eq}
+use Rattle.text.specs.Lists.{items}
 use Rattle.text.specs.NameLists.{place}
 use Rattle.text.specs.declared.refusal.Refusal.{Refusal}
 use Rattle.text.specs.declared.refusal.Refusal.TheVariants.{PathLength, NotSteps, TooManySteps}
@@ -10,7 +11,7 @@ use Rattle.paths.specs.declared.path.Test.{Test}
 use Rattle.paths.specs.declared.path.Test.TheVariants.{Label, Any}
 
 abbrev pub steps_of : Path → List Step
-steps_of p = take p.count p.steps
+steps_of p = items p.steps
 
 abbrev pub slash : ℕ
 slash = 47

@@ -1,54 +1,87 @@
-//! Sets of positions in a path, one bit for each position.
-ghost use Rattle.std.specs.Prelude.{◌≡◌, ℕ, ◌<◌, ◌≤◌, true, ◌⊎◌, ◌↔◌, length, Decides};
+//! Sets of positions in a path.
+ghost use Rattle.std.specs.Prelude.{◌≡◌, ℕ, ◌<◌, ◌⊎◌, ◌↔◌, Decides};
 ghost use Rattle.paths.specs.Meanings.{fits};
-ghost use Rattle.paths.specs.Positions.{Holds, Goes, Moved};
+ghost use Rattle.paths.specs.Positions.{start_set, Holds, StepGoes, Moved};
+ghost use Rattle.paths.specs.Texts.{steps_of};
 
-use crate::path::{Step, Test};
+use crate::path::{Path, Step, Test};
+use std::marker::Model;
 
-// Where a label leads from the positions of a set.
-pub(crate) fn moved(steps: &[Step], set: u16, label: u8) -> u16
-    requires { length steps.now ≤ 15 }
-    ensures { Moved steps.now label set result }
-{
-    let mut next = 0;
-    for at in 0..steps.len() {
-        if holds(set, at) {
-            next = with_next(next, steps, at, label);
+// One bit for each position, the lowest for the first.
+#[derive(Clone, Copy, PartialEq, Eq)]
+pub(crate) struct PositionSet {
+    bits: u16,
+}
+
+impl Model for PositionSet {
+    ghost use Rattle.std.specs.Prelude.{ℕ};
+
+    ghost Value = { ℕ };
+
+    ghost view = { λ s. s.bits };
+
+    ghost inverse = { λ n. record { bits = n } };
+}
+
+impl PositionSet {
+    // Position 0 alone.
+    pub(crate) fn start() -> PositionSet
+        ensures { result ≡ start_set }
+    {
+        PositionSet { bits: 1 }
+    }
+
+    // Where a label leads from the positions of the set.
+    pub(crate) fn moved(self, path: &Path, label: u8) -> PositionSet
+        ensures { Moved (steps_of path.now) label self result }
+    {
+        let mut next = PositionSet { bits: 0 };
+        for (at, step) in path.steps().iter().enumerate() {
+            if self.holds(at) {
+                next = next.with_next(at, *step, label);
+            }
+        }
+        next
+    }
+
+    pub(crate) fn holds(self, at: usize) -> bool
+        requires { at < 16 }
+        ensures { Decides result (Holds self at) }
+    {
+        (self.bits >> at) & 1 == 1
+    }
+
+    // The set with the positions that a label leads to from position `at`, which stands before this step.
+    fn with_next(self, at: usize, step: Step, label: u8) -> PositionSet
+        requires { at < 15 }
+        ensures { (i : ℕ) → Holds result i ↔ (Holds self i ⊎ StepGoes step label at i) }
+    {
+        let kept = if step.descend { self.with(at) } else { self };
+        if step.test.fits(label) {
+            kept.with(at + 1)
+        } else {
+            kept
         }
     }
-    next
+
+    // The set with position `at` too.
+    fn with(self, at: usize) -> PositionSet
+        requires { at < 16 }
+        ensures { (i : ℕ) → Holds result i ↔ (Holds self i ⊎ (i ≡ at)) }
+    {
+        PositionSet {
+            bits: self.bits | (1 << at),
+        }
+    }
 }
 
-pub(crate) fn holds(set: u16, at: usize) -> bool
-    requires { at < 16 }
-    ensures { Decides result (Holds set at) }
-{
-    (set >> at) & 1 == 1
-}
-
-// The set with the positions that a label leads to from position `at`.
-fn with_next(set: u16, steps: &[Step], at: usize, label: u8) -> u16
-    requires { (at < length steps.now) × (length steps.now ≤ 15) }
-    ensures { (i : ℕ) → Holds result i ↔ (Holds set i ⊎ Goes steps.now label at i) }
-{
-    let step = steps[at];
-    let kept = with(set, at, step.descend);
-    with(kept, at + 1, test_fits(step.test, label))
-}
-
-// The set, with position `at` too where `on` says so.
-fn with(set: u16, at: usize, on: bool) -> u16
-    requires { at < 16 }
-    ensures { (i : ℕ) → Holds result i ↔ (Holds set i ⊎ ((i ≡ at) × (on ≡ true))) }
-{
-    if on { set | (1 << at) } else { set }
-}
-
-fn test_fits(test: Test, label: u8) -> bool
-    ensures { result ≡ fits test label }
-{
-    match test {
-        Test::Label(wanted) => label == wanted,
-        Test::Any => true,
+impl Test {
+    fn fits(self, label: u8) -> bool
+        ensures { result ≡ fits self label }
+    {
+        match self {
+            Test::Label(wanted) => label == wanted,
+            Test::Any => true,
+        }
     }
 }

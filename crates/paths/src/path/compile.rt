@@ -1,13 +1,11 @@
 //! From a path to its table.
-ghost use Rattle.std.specs.Prelude.{◌≡◌, ℕ, ◌<◌, ◌≤◌, false, length, Decides, MatchOption, MatchResult, slice_index, slice_index_or};
+ghost use Rattle.std.specs.Prelude.{◌≡◌, ℕ, ◌<◌, ◌∷◌, [], false, length, Decides, MatchOption, MatchResult, slice_index, slice_index_or};
 ghost use Rattle.text.specs.Labelled.{names_of};
 ghost use Rattle.paths.specs.Positions.{start_set, Holds, MoreThan};
-ghost use Rattle.paths.specs.Scans.{RowFrom, StuckFrom, AllScanned};
 ghost use Rattle.paths.specs.Tables.{TableOf, Overfull};
 ghost use Rattle.paths.specs.Texts.{steps_of};
 
-use crate::path::{Path, Step};
-use crate::positions::{holds, moved};
+use crate::path::Path;
 use crate::sets::Sets;
 use base::table::Table;
 use text::labels::Labels;
@@ -19,55 +17,73 @@ impl Path {
     pub fn table(&self, labels: &Labels) -> Result<Table, Refusal>
         ensures { MatchResult result (TableOf (steps_of self.now) (length (names_of labels.now))) (Overfull (steps_of self.now) (length (names_of labels.now))) }
     {
-        let steps = self.steps();
-        let labels = labels.count();
-        let mut sets = Sets::new();
-        let Some(found) = targets(&mut sets, steps, labels) else {
-            return Err(Refusal::TooManySets);
+        let mut scan = Scan {
+            path: self,
+            labels,
+            sets: Sets::new(),
         };
-        let yes = accepting(&sets, steps.len());
-        Table::new(labels, sets.count(), 0, found, yes)
+        let targets = scan.targets().ok_or(Refusal::TooManySets)?;
+        Table::new(
+            labels.count(),
+            scan.sets.count(),
+            0,
+            targets,
+            scan.accepting(),
+        )
     }
 }
 
-// The targets of all states that are met; nothing where the sets run out of numbers.
-fn targets(sets: &mut Sets, steps: &[Step], labels: u8) -> Option<[[u8; 16]; 32]>
-    requires { (length steps.now ≤ 15) × ((labels ≤ 16) × ((sets.old.count ≡ 1) × (slice_index sets.old.sets 0 ≡ start_set))) }
-    ensures { MatchOption result (MoreThan 32 steps.now labels) (AllScanned steps.now labels sets.new) }
-{
-    let mut targets = [[0; 16]; 32];
-    let mut state = 0;
-    while state < sets.count() {
-        let found = row(sets, steps, labels, state)?;
-        targets[state as usize] = found;
-        state += 1;
-    }
-    Some(targets)
+// The position sets of a path, met row by row: where the labels lead from each set, and so to further sets.
+#[derive(Drop)]
+struct Scan<'a> {
+    path: &'a Path,
+    labels: &'a Labels,
+    sets: Sets,
 }
 
-// The targets of one state; nothing where the sets run out of numbers.
-fn row(sets: &mut Sets, steps: &[Step], labels: u8, state: u8) -> Option<[u8; 16]>
-    requires { (length steps.now ≤ 15) × ((labels ≤ 16) × (state < sets.old.count)) }
-    ensures { MatchOption result (StuckFrom steps.now labels state sets.old sets.new) (RowFrom steps.now labels state sets.old sets.new) }
-{
-    let set = sets.set(state);
-    let mut row = [0; 16];
-    for label in 0..labels {
-        let next = moved(steps, set, label);
-        let target = sets.number(next)?;
-        row[label as usize] = target;
-    }
-    Some(row)
-}
+impl<'a> Scan<'a> {
+    ghost use Rattle.paths.specs.Scans.{steps_in, labels_in, sets_in, Kept, RowOf, StuckAt, AllScanned};
 
-// Which states hold the position behind all steps.
-fn accepting(sets: &Sets, last: usize) -> [bool; 32]
-    requires { last < 16 }
-    ensures { (p : ℕ) → p < sets.now.count → Decides (slice_index_or result p false) (Holds (slice_index sets.now.sets p) last) }
-{
-    let mut yes = [false; 32];
-    for p in 0..sets.count() {
-        yes[p as usize] = holds(sets.set(p), last);
+    // The targets of all states that are met; nothing where the sets run out of numbers.
+    fn targets(&mut self) -> Option<[[u8; 16]; 32]>
+        requires { sets_in self.old ≡ start_set ∷ [] }
+        ensures targets { MatchOption result (MoreThan 32 (steps_in self.old) (labels_in self.old)) (AllScanned self.old self.new) }
+        ensures kept { Kept self.old self.new }
+    {
+        let mut targets = [[0; 16]; 32];
+        let mut state = 0;
+        // No `for`: a row may meet further sets, which are states too.
+        while state < self.sets.count() {
+            targets[state as usize] = self.row(state)?;
+            state += 1;
+        }
+        Some(targets)
     }
-    yes
+
+    // The targets of one state; nothing where the sets run out of numbers.
+    fn row(&mut self, state: u8) -> Option<[u8; 16]>
+        requires { state < length (sets_in self.old) }
+        ensures row { MatchOption result (StuckAt self.old state self.new) (RowOf self.old state self.new) }
+        ensures kept { Kept self.old self.new }
+    {
+        let set = self.sets.set(state);
+        let mut row = [0; 16];
+        let n = self.labels.count() as usize;
+        for (label, target) in row[..n].iter_mut().enumerate() {
+            *target = self.sets.number(set.moved(self.path, label as u8))?;
+        }
+        Some(row)
+    }
+
+    // Which states hold the position behind all steps.
+    fn accepting(&self) -> [bool; 32]
+        ensures { (p : ℕ) → p < length (sets_in self.now) → Decides (slice_index_or result p false) (Holds (slice_index (sets_in self.now) p) (length (steps_in self.now))) }
+    {
+        let last = self.path.steps().len();
+        let mut yes = [false; 32];
+        for p in 0..self.sets.count() {
+            yes[p as usize] = self.sets.set(p).holds(last);
+        }
+        yes
+    }
 }

@@ -1,31 +1,30 @@
 -- Step by step, and then all steps, or the first refusal that fits.
-use Rattle.std.proofs.Common.{◌≡◌, ℕ, ◌<◌, ◌≤◌, false, eqb, List, length, take, sym, refl, ◌∙◌, subst, ⊎_elim, arith}
-use Rattle.std.proofs.lemmas.List.{take_rest}
+use Rattle.std.proofs.Common.{◌≡◌, ℕ, ◌<◌, ◌≤◌, false, eqb, List, length, sym, ◌∙◌, ⊎_elim, arith}
+use Rattle.std.proofs.lemmas.List.{nil_from_length}
 use Rattle.std.proofs.lemmas.Bool.{eqb-true, eqb-false}
-use Rattle.text.specs.declared.labels.Labels.{Labels}
+use Rattle.std.proofs.lemmas.Option.{MatchOption-at_some, MatchOption-at_none}
+use Rattle.std.proofs.lemmas.Result.{err_from_is_err_and}
+use Rattle.text.specs.declared.refusal.Refusal.TheVariants.{NotSteps}
 use Rattle.text.specs.Labelled.{names_of}
 use Rattle.text.proofs.Naming.{stored_rule}
-use Rattle.paths.specs.declared.path.Step.{Step}
 use Rattle.paths.specs.FirstSteps.{First}
-use Rattle.paths.specs.Texts.{Sized, ReadAs, Unread, bad_length}
-use Rattle.paths.proofs.Reading.{Sofar, none_read, one_read, not_read, many_read, all_read}
+use Rattle.paths.specs.Texts.{Sized, Unread, bad_length}
+use Rattle.paths.proofs.Reading.{none_read, one_read, not_read, many_read, all_read}
 use Rattle.paths.proofs.path.Path.read.Goals as goal
 
 sized_by : (text : List ℕ) → false ≡ eqb (length text) 0 → length text ≤ 200 → Sized text
 sized_by text e h = let some = eqb-false _ 0 (sym e) in (omega (arith, some), h)
 
-read_whole : (labels : Labels) (text : List ℕ) (at count : ℕ) (steps : List Step) → Sofar (names_of labels) text at count steps → length text ≤ at → Sized text → count ≤ 15 → (1 ≤ count) × ReadAs (names_of labels) text (take count steps)
-read_whole labels text = all_read (names_of labels) text (stored_rule labels.count labels.names)
+pub loop-stored-init : goal.loop-stored-init
+loop-stored-init c = none_read (names_of c.args.labels.now) c.args.text.now _ c.empty-steps.ensures
 
-pub loop-at-init : goal.loop-at-init
-loop-at-init c = none_read (names_of c.args.labels.now) c.args.text.now _ refl
-
-pub loop-at-preserved : goal.loop-at-preserved
-loop-at-preserved c =
-    let text = c.args.text.now in
-    let names = names_of c.args.labels.now in
-    one_read names text c.loop-at.at c.loop-at.count c.loop-at.steps c.in-Some.step c.in-Some.taken _ c.loop-at.invariant
-    (subst (λ x. First names x c.in-Some.step c.in-Some.taken) (take_rest text c.loop-at.at) c.in-Some.ensures) c.store.array_long c.store.ensures
+pub loop-stored-preserved : goal.loop-stored-preserved
+loop-stored-preserved c =
+    let labels = c.args.labels.now in
+    let names = names_of labels in
+    let rest = c.loop-stored.rest.now in
+    let first = MatchOption-at_some (Unread names rest) (λ p. First names rest p.0 p.1.now) _ c.in_ok-step.ensures.ok_part c.first_step.ensures in
+    one_read names _ _ _ _ _ _ _ _ c.loop-stored.invariant first c.push-stored.ensures
 
 pub returns-then-is_empty : goal.returns-then-is_empty
 returns-then-is_empty c = bad_length (λ h. ⊎_elim
@@ -33,17 +32,29 @@ returns-then-is_empty c = bad_length (λ h. ⊎_elim
     (λ (long : (c.is_empty.result ≡ false) × (200 < length c.args.text.now)). omega (arith, h.1, long.1))
     c.then-is_empty.either)
 
-pub returns-in_default : goal.returns-in_default
-returns-in_default c =
-    let text = c.args.text.now in
+pub returns-in_err-step : goal.returns-in_err-step
+returns-in_err-step c =
     let names = names_of c.args.labels.now in
-    not_read names text c.loop-at.at c.loop-at.count c.loop-at.steps c.loop-at.invariant (sized_by c.args.text.now c.if-is_empty.ensures c.if-text-gt-MAX_TEXT.false) (subst (Unread names) (take_rest text c.loop-at.at) c.in_default.ensures)
+    let rest = c.loop-stored.rest.now in
+    let none = MatchOption-at_none (Unread names rest) (λ p. First names rest p.0 p.1.now) c.in_err-step.ensures.ok_part c.first_step.ensures in
+    let p = err_from_is_err_and c.from_residual.result c.from_residual.ensures.1 in
+    let why : c.in_err-step.field-0.0 ≡ NotSteps = grind arith in
+    rw (p.1, p.2, why) (not_read names c.args.text.now _ _ _ c.loop-stored.invariant (sized_by c.args.text.now c.if-is_empty.ensures c.if-text-gt-MAX_TEXT.false) none)
 
-pub returns-then-count-gt-MAX_STEPS : goal.returns-then-count-gt-MAX_STEPS
-returns-then-count-gt-MAX_STEPS c = many_read (names_of c.args.labels.now) c.args.text.now c.loop-at.at c.loop-at.count c.loop-at.steps c.loop-at.invariant c.loop-at-test.false (sized_by c.args.text.now c.if-is_empty.ensures c.if-text-gt-MAX_TEXT.false) (omega arith)
+pub returns-in_err-or : goal.returns-in_err-or
+returns-in_err-or c =
+    let end = nil_from_length c.loop-stored.rest.now (eqb-true _ 0 (sym c.loop-stored-test.ensures)) in
+    let p = err_from_is_err_and c.from_residual-in_err-or.result c.from_residual-in_err-or.ensures.1 in
+    rw (p.1, p.2) (many_read (names_of c.args.labels.now) _ _ _ end (sized_by c.args.text.now c.if-is_empty.ensures c.if-text-gt-MAX_TEXT.false) _ _ c.loop-stored.invariant c.in_err-or.ensures)
 
 pub invariant_of-result : goal.invariant_of-result
-invariant_of-result c = record { some = (read_whole c.args.labels.now c.args.text.now c.loop-at.at c.loop-at.count c.loop-at.steps c.loop-at.invariant c.loop-at-test.false (sized_by c.args.text.now c.if-is_empty.ensures c.if-text-gt-MAX_TEXT.false) c.if-count-gt-MAX_STEPS.false).0; fits = c.if-count-gt-MAX_STEPS.false }
+invariant_of-result c =
+    let labels = c.args.labels.now in
+    let end = nil_from_length c.loop-stored.rest.now (eqb-true _ 0 (sym c.loop-stored-test.ensures)) in
+    record { some = (all_read (names_of labels) _ _ _ end (sized_by c.args.text.now c.if-is_empty.ensures c.if-text-gt-MAX_TEXT.false) _ _ (stored_rule labels.count labels.names) c.loop-stored.invariant c.in_ok-or.ensures).0 }
 
 pub returns : goal.returns
-returns c = (read_whole c.args.labels.now c.args.text.now c.loop-at.at c.loop-at.count c.loop-at.steps c.loop-at.invariant c.loop-at-test.false (sized_by c.args.text.now c.if-is_empty.ensures c.if-text-gt-MAX_TEXT.false) c.if-count-gt-MAX_STEPS.false).1
+returns c =
+    let labels = c.args.labels.now in
+    let end = nil_from_length c.loop-stored.rest.now (eqb-true _ 0 (sym c.loop-stored-test.ensures)) in
+    (all_read (names_of labels) _ _ _ end (sized_by c.args.text.now c.if-is_empty.ensures c.if-text-gt-MAX_TEXT.false) _ _ (stored_rule labels.count labels.names) c.loop-stored.invariant c.in_ok-or.ensures).1

@@ -1,10 +1,9 @@
 -- The opening and the first word make the first step, or none can be read.
-use Rattle.std.proofs.Common.{◌≡◌, ◌+◌, ◌-◌, take, Some, None, sym, subst, arith}
+use Rattle.std.proofs.Common.{◌≡◌, take, Some, None}
 use Rattle.text.specs.Labelled.{names_of}
 use Rattle.text.proofs.Naming.{stored_rule}
-use Rattle.paths.specs.FirstSteps.{Front, First}
 use Rattle.paths.specs.Texts.{test_of}
-use Rattle.paths.proofs.Spelling.{tail_is, unopened_unread, first_unnamed, first_made}
+use Rattle.paths.proofs.Spelling.{unopened_unread, first_unnamed, first_made}
 use Rattle.paths.proofs.path.reading.first_step.Goals as goal
 
 pub returns-in_err-descend : goal.returns-in_err-descend
@@ -15,22 +14,11 @@ returns-in_err-descend c =
 pub returns-in_err-test : goal.returns-in_err-test
 returns-in_err-test c =
     let labels = c.args.labels.now in
-    let o = c.in_ok-descend.ensures in
-    let len = c.word_len-len.result in
-    let tail = tail_is c.args.text.now c.in_ok-descend.descend o c.slash_count-from.result c.slash_count-from.ensures in
-    let same : len - 0 ≡ len = omega arith in
-    rw c.from_residual-in_err-test.ensures (first_unnamed (names_of labels) (stored_rule labels.count labels.names) c.args.text.now c.in_ok-descend.descend o len (subst (λ x. Front x len) tail c.word_len-len.ensures)
-    (subst (λ x. None ≡ test_of (names_of labels) x) (λ i. take (same i) (tail i)) c.in_err-test.ensures))
+    let word : None ≡ test_of (names_of labels) (take c.word_len.result c.in_ok-descend.tail.now) = rw (← c.split_at.ensures.front) c.in_err-test.ensures in
+    rw c.from_residual-in_err-test.ensures (first_unnamed (names_of labels) (stored_rule labels.count labels.names) _ _ _ c.in_ok-descend.ensures _ c.word_len.ensures word)
 
 pub returns : goal.returns
 returns c =
     let labels = c.args.labels.now in
-    let text = c.args.text.now in
-    let o = c.in_ok-descend.ensures in
-    let len = c.word_len-len.result in
-    let test = c.in_ok-test.test in
-    let tail = tail_is text c.in_ok-descend.descend o c.slash_count-from.result c.slash_count-from.ensures in
-    let same : len - 0 ≡ len = omega arith in
-    subst (λ k. First (names_of labels) text (record { descend = c.in_ok-descend.descend; test = test }) (k + len)) (sym c.slash_count-from.ensures)
-    (first_made (names_of labels) (stored_rule labels.count labels.names) text c.in_ok-descend.descend o len (subst (λ x. Front x len) tail c.word_len-len.ensures) test
-    (subst (λ x. Some test ≡ test_of (names_of labels) x) (λ i. take (same i) (tail i)) c.in_ok-test.ensures))
+    let word : Some c.in_ok-test.test ≡ test_of (names_of labels) (take c.word_len.result c.in_ok-descend.tail.now) = rw (← c.split_at.ensures.front) c.in_ok-test.ensures in
+    rw c.split_at.ensures.back (first_made (names_of labels) (stored_rule labels.count labels.names) _ _ _ c.in_ok-descend.ensures _ c.word_len.ensures _ word)
