@@ -6,6 +6,7 @@ use Rattle.std.proofs.lemmas.Option.{MatchOption-at_some, MatchOption-at_none}
 use Rattle.std.proofs.lemmas.Result.{err_from_is_err_and}
 use Rattle.text.specs.declared.refusal.Refusal.TheVariants.{NotSteps}
 use Rattle.text.specs.Labelled.{names_of}
+use Rattle.text.specs.Lists.{items}
 use Rattle.text.proofs.Naming.{stored_rule}
 use Rattle.paths.specs.FirstSteps.{First}
 use Rattle.paths.specs.Texts.{Sized, Unread, bad_length}
@@ -51,10 +52,10 @@ pub invariant_of-result : goal.invariant_of-result
 invariant_of-result c =
     let labels = c.args.labels.now in
     let end = nil_from_length c.loop-stored.rest.now (eqb-true _ 0 (sym c.loop-stored-test.ensures)) in
-    record { some = (all_read (names_of labels) _ _ _ end (sized_by c.args.text.now c.if-is_empty.ensures c.if-text-gt-MAX_TEXT.false) _ _ (stored_rule labels.count labels.names) c.loop-stored.invariant c.in_ok-or.ensures).0 }
+    record { some = (all_read (names_of labels) _ _ _ end (sized_by c.args.text.now c.if-is_empty.ensures c.if-text-gt-MAX_TEXT.false) _ _ (stored_rule (items labels.names)) c.loop-stored.invariant c.in_ok-or.ensures).0 }
 
 pub returns : goal.returns
 returns c =
     let labels = c.args.labels.now in
     let end = nil_from_length c.loop-stored.rest.now (eqb-true _ 0 (sym c.loop-stored-test.ensures)) in
-    (all_read (names_of labels) _ _ _ end (sized_by c.args.text.now c.if-is_empty.ensures c.if-text-gt-MAX_TEXT.false) _ _ (stored_rule labels.count labels.names) c.loop-stored.invariant c.in_ok-or.ensures).1
+    (all_read (names_of labels) _ _ _ end (sized_by c.args.text.now c.if-is_empty.ensures c.if-text-gt-MAX_TEXT.false) _ _ (stored_rule (items labels.names)) c.loop-stored.invariant c.in_ok-or.ensures).1

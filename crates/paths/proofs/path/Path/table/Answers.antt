@@ -5,6 +5,7 @@ use Rattle.std.proofs.lemmas.Result.{err_from_is_err_and}
 use Rattle.text.specs.declared.labels.Labels.{Labels}
 use Rattle.text.specs.declared.refusal.Refusal.TheVariants.{TooManySets}
 use Rattle.text.specs.Labelled.{names_of}
+use Rattle.text.proofs.Naming.{few_names}
 use Rattle.paths.specs.declared.path.compile.Scan.{Scan}
 use Rattle.paths.specs.Positions.{MoreThan}
 use Rattle.paths.specs.Scans.{sets_in, AllScanned}
@@ -15,7 +16,7 @@ use Rattle.paths.proofs.Scanning.{sets_fit}
 use Rattle.paths.proofs.path.Path.table.Goals as goal
 
 few_labels : (l : Labels) (n : ℕ) → n ≡ length (names_of l) → (1 ≤ n) × (n ≤ 16)
-few_labels l n e = (omega (arith, l.counted, l.some), omega (arith, l.counted, l.fits))
+few_labels l n e = (omega (arith, l.some), omega (arith, few_names l.names))
 
 pub returns-in_err-targets : goal.returns-in_err-targets
 returns-in_err-targets c =
