@@ -3,6 +3,7 @@ use Rattle.std.proofs.Common.{◌≤◌, length, sym, ap, ◌∙◌, arith}
 use Rattle.std.proofs.lemmas.List.{nil_from_length}
 use Rattle.std.proofs.lemmas.Result.{err_from_is_err_and}
 use Rattle.std.proofs.lemmas.Bool.{eqb-true, eqb-false}
+use Rattle.text.proofs.Naming.{few_names}
 use Rattle.formats.specs.TableText.{unheaded}
 use Rattle.formats.proofs.Heading.{headed, badly_named}
 use Rattle.formats.proofs.Tabling.{no_states, rows_missing, rows_followed, target_outside, table_made}
@@ -38,7 +39,7 @@ returns-in_err-table c =
     let p = err_from_is_err_and c.from_residual-in_err-table.result c.from_residual-in_err-table.ensures.1 in
     let head = headed _ _ _ c.in_ok-line.ensures _ c.in_ok-labels.ensures in
     let low : 1 ≤ c.count-n.result = omega arith in
-    let high : c.count-n.result ≤ 16 = omega arith in
+    let high : c.count-n.result ≤ 16 = omega (arith, few_names c.in_ok-labels.labels.names) in
     rw (p.1, p.2) (target_outside _ _ _ head _ _ _ c.in-Some.ensures.0 c.in-Some.ensures.1 _ c.count-n.ensures c.in-Some-take_rows.rows.targets c.in-Some-take_rows.rows.accepting c.in-Some-take_rows.rest.now c.in-Some-take_rows.ensures _ low high c.in_err-table.ensures)
 
 pub returns : goal.returns
