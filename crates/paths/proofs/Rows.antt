@@ -1,10 +1,10 @@
 -- One more set under a number, and one more target in a row.
-use Rattle.std.proofs.Common.{◌≡◌, ℕ, suc, ◌+◌, ◌<◌, ◌≤◌, max, List, [], ◌∷◌, ◌++◌, length, get_or, set, sym, refl, ap, ◌∙◌, subst, ⊎_elim, add-one, arith, below_more}
+use Rattle.std.proofs.Common.{◌≡◌, ℕ, suc, ◌+◌, ◌<◌, ◌≤◌, Bool, max, List, [], ◌∷◌, ◌++◌, length, get_or, set, Decides, sym, refl, ap, ◌∙◌, subst, ⊎_elim, add-one, arith, below_more}
 use Rattle.std.proofs.lemmas.List.{get_or-set_same, get_or-set_other, get_or_append_left, get_or_push, length_push}
 use Rattle.std.proofs.lemmas.Bool.{cases_lt}
 use Rattle.paths.specs.declared.path.Step.{Step}
 use Rattle.automata.specs.Numbering.{met_in_row}
-use Rattle.paths.specs.Positions.{Moved}
+use Rattle.paths.specs.Positions.{Holds, Moved}
 use Rattle.paths.specs.Sets.{Numbered, known, added, Full}
 use Rattle.paths.specs.Scans.{Row, Stuck}
 use Rattle.automata.proofs.Meeting.{row_grows, row_meets, row_same}
@@ -85,6 +85,9 @@ pub stuck_at : (steps : List Step) (labels from : ℕ) (old : List ℕ) (label :
 stuck_at steps labels from old label row met after over before scanned leads full same =
     subst (Stuck steps labels from old) (sym same) (record { label = label; row = row; over = over; before = before; scanned = scanned; leads = leads; full = full })
 
--- where a label leads, by equal steps from an equal set
+-- where a label leads, and what is said, by equal steps from an equal set
 pub led_by : (steps others : List Step) (a from set x : ℕ) → others ≡ steps → from ≡ set → Moved others a from x → Moved steps a set x
 led_by steps others a from set x e is h = subst (λ ss. Moved ss a set x) e (subst (λ m. Moved others a m x) is h)
+
+pub says_by : (steps others : List Step) (from set : ℕ) (b : Bool) → others ≡ steps → from ≡ set → Decides b (Holds from (length others)) → Decides b (Holds set (length steps))
+says_by steps others from set b e is h = subst (λ ss. Decides b (Holds set (length ss))) e (subst (λ m. Decides b (Holds m (length others))) is h)

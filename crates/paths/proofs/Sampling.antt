@@ -1,10 +1,10 @@
 -- The automaton of some steps, by computing: from words that lead to its states, in the order in which these are first met.
 use Rattle.std.proofs.Common.{◌≡◌, ℕ, zero, suc, ◌/◌, ◌%◌, ◌^◌, ◌<◌, ◌≤◌, Bool, true, false, cond, ◌&&◌, eqb, ltb, leb, ◌≢◌, List, [], ◌∷◌, ◌++◌, map, length, get_or, is_some, Some, None, Option, sym, refl, ap, ◌∙◌, subst, ⊎_elim, arith}
+use Rattle.std.specs.List.{list_all}
 use Rattle.std.proofs.lemmas.List.{length-map}
 use Rattle.std.proofs.lemmas.Bool.{and_parts, eqb-true, leb-true, ltb-true, both_ways, cases_lt}
 use Rattle.std.proofs.lemmas.Bool.Decides.{Decides-eqb}
 use Rattle.automata.specs.Automata.{Automaton, Word, WellFormed}
-use Rattle.base.specs.Every.{every}
 use Rattle.text.specs.NameLists.{all_names}
 use Rattle.paths.specs.declared.path.Step.{Step}
 use Rattle.paths.specs.declared.path.Test.{Test}
@@ -45,7 +45,7 @@ index_at x (y ∷ ys) h = first (eqb y x) refl h (index_at x ys)
     first true e h rest = eqb-true y x e
     first false e h rest = rest (omega arith)
 
-word_of : (n : ℕ) (w : List ℕ) → every (λ a. ltb a n) w ≡ true → Word n w
+word_of : (n : ℕ) (w : List ℕ) → list_all (λ a. ltb a n) w ≡ true → Word n w
 word_of n [] h = tt
 word_of n (a ∷ w) h = (ltb-true a n (and_parts _ _ h).0, word_of n w (and_parts _ _ h).1)
 
@@ -55,9 +55,9 @@ module _ (steps : List Step) (n : ℕ) where
 
   -- words over the labels, each to a set of its own
   abbrev Differ : List (List ℕ) → Type 0
-  Differ words = (every (every (λ a. ltb a n)) words ≡ true) × (below (length words) (λ p. eqb (index (get_or (sets words) p 0) (sets words)) p) ≡ true)
+  Differ words = (list_all (list_all (λ a. ltb a n)) words ≡ true) × (below (length words) (λ p. eqb (index (get_or (sets words) p 0) (sets words)) p) ≡ true)
 
-  reached_at : (words : List (List ℕ)) → every (every (λ a. ltb a n)) words ≡ true → (p : ℕ) → p < length words → Reached steps n (get_or (sets words) p 0)
+  reached_at : (words : List (List ℕ)) → list_all (list_all (λ a. ltb a n)) words ≡ true → (p : ℕ) → p < length words → Reached steps n (get_or (sets words) p 0)
   reached_at [] h p l = absurd (omega arith)
   reached_at (w ∷ words) h zero l = reached_moves steps n w start_set (word_of n w (and_parts _ _ h).0) at_start
   reached_at (w ∷ words) h (suc p) l = reached_at words (and_parts _ _ h).1 p (omega arith)
@@ -147,14 +147,14 @@ fits_in a x b = leb a x && leb x b
 
 -- the words are names, and there is not too much of it
 abbrev reads : List (List ℕ) → List (Bool × List ℕ) → Bool
-reads names xs = (all_names names && every (λ x. is_some (test_of names x.1)) xs) && (fits_in 1 (length (text_of xs)) 200 && leb (length (steps_in names xs)) 15)
+reads names xs = (all_names names && list_all (λ x. is_some (test_of names x.1)) xs) && (fits_in 1 (length (text_of xs)) 200 && leb (length (steps_in names xs)) 15)
 
 module _ (names : List (List ℕ)) where
   stands : (o : Option Test) → is_some o ≡ true → o ≡ Some (or_any o)
   stands (Some t) h = refl
   stands None h = absurd (both_ways _ refl h)
 
-  written : (xs : List (Bool × List ℕ)) → every (λ x. is_some (test_of names x.1)) xs ≡ true → Written names (steps_in names xs) (text_of xs)
+  written : (xs : List (Bool × List ℕ)) → list_all (λ x. is_some (test_of names x.1)) xs ≡ true → Written names (steps_in names xs) (text_of xs)
   written [] h = refl
   written (x ∷ xs) h = (slashes x.0 ++ x.1, text_of xs, refl, record { word = x.1; whole = refl; stands = stands (test_of names x.1) (and_parts _ _ h).0 }, written xs (and_parts _ _ h).1)
 

@@ -1,10 +1,12 @@
 -- How a scan of the states, row by row, meets the position sets and numbers them.
-use Rattle.std.specs.Prelude.{◌≡◌, ℕ, ◌<◌, ◌≤◌, List, [], length, get_or, slice_index, slice_index_or}
+use Rattle.std.specs.Prelude.{◌≡◌, ℕ, ◌<◌, ◌≤◌, List, length, Decides, get_or, slice_index}
 use Rattle.automata.specs.Numbering.{met_in_row, met}
 use Rattle.text.specs.Labelled.{names_of}
+use Rattle.base.specs.declared.table.Row.{Row as TableRow}
+use Rattle.base.specs.Rows.{row, target}
 use Rattle.paths.specs.declared.path.Step.{Step}
 use Rattle.paths.specs.declared.path.compile.Scan.{Scan}
-use Rattle.paths.specs.Positions.{start_set, Moved, Reached}
+use Rattle.paths.specs.Positions.{start_set, Holds, Moved, Reached}
 use Rattle.paths.specs.Sets.{sets_of, Full}
 use Rattle.paths.specs.Texts.{steps_of}
 
@@ -26,18 +28,15 @@ pub record Stuck (steps : List Step) (labels set : ℕ) (old new : List ℕ) : T
   pub leads : Moved steps label set over
   pub full : Full new over
 
--- the target in row p at the label a
-abbrev pub target : List (List ℕ) → ℕ → ℕ → ℕ
-target targets p a = slice_index (slice_index_or targets p []) a
-
--- the rows below p are scanned, and met the sets
-pub record Scanned (steps : List Step) (labels : ℕ) (targets : List (List ℕ)) (p : ℕ) (sets : List ℕ) : Type 0 where
+-- the rows below p are scanned, and met the sets; a state says yes where its set holds the position behind all steps
+pub record Scanned (steps : List Step) (labels : ℕ) (rows : List TableRow) (p : ℕ) (sets : List ℕ) : Type 0 where
   pub below : p ≤ length sets
   pub start : get_or sets 0 0 ≡ start_set
-  pub moves : (q a : ℕ) → q < p → a < labels → Moved steps a (slice_index sets q) (slice_index sets (target targets q a))
-  pub next : (q a : ℕ) → q < p → a < labels → target targets q a ≤ met_in_row (target targets q) (met labels (target targets) q) a
-  pub counts : length sets ≡ met labels (target targets) p
+  pub moves : (q a : ℕ) → q < p → a < labels → Moved steps a (slice_index sets q) (slice_index sets (target rows q a))
+  pub next : (q a : ℕ) → q < p → a < labels → target rows q a ≤ met_in_row (target rows q) (met labels (target rows) q) a
+  pub counts : length sets ≡ met labels (target rows) p
   pub reached : (q : ℕ) → q < length sets → Reached steps labels (slice_index sets q)
+  pub yes : (q : ℕ) → q < p → Decides (row rows q).accepts (Holds (slice_index sets q) (length steps))
 
 -- the steps, the label count and the sets of a scan
 abbrev pub steps_in : Scan → List Step
@@ -55,11 +54,13 @@ pub record Kept (before after : Scan) : Type 0 where
   pub labels : after.labels.now ≡ before.labels.now
 
 -- the same, of a row that a scan makes, and of all rows
-abbrev pub RowOf : Scan → ℕ → Scan → List ℕ → Type 0
-RowOf before state after row = Row (steps_in before) (slice_index (sets_in before) state) (sets_in before) (labels_in before) row (sets_in after)
+abbrev pub RowOf : Scan → ℕ → Scan → TableRow → Type 0
+RowOf before state after r =
+    Row (steps_in before) (slice_index (sets_in before) state) (sets_in before) (labels_in before) r.targets (sets_in after)
+    × Decides r.accepts (Holds (slice_index (sets_in before) state) (length (steps_in before)))
 
 abbrev pub StuckAt : Scan → ℕ → Scan → Type 0
 StuckAt before state after = Stuck (steps_in before) (labels_in before) (slice_index (sets_in before) state) (sets_in before) (sets_in after)
 
-abbrev pub AllScanned : Scan → Scan → List (List ℕ) → Type 0
-AllScanned before after targets = Scanned (steps_in before) (labels_in before) targets (length (sets_in after)) (sets_in after)
+abbrev pub AllScanned : Scan → Scan → List TableRow → Type 0
+AllScanned before after rows = Scanned (steps_in before) (labels_in before) rows (length (sets_in after)) (sets_in after)

@@ -1,13 +1,13 @@
 //! From a path to its table.
-ghost use Rattle.std.specs.Prelude.{◌≡◌, ℕ, ◌<◌, ◌∷◌, [], false, length, Decides, MatchOption, MatchResult, slice_index, slice_index_or};
+ghost use Rattle.std.specs.Prelude.{◌≡◌, ◌<◌, ◌∷◌, [], length, MatchOption, MatchResult};
 ghost use Rattle.text.specs.Labelled.{names_of};
-ghost use Rattle.paths.specs.Positions.{start_set, Holds, MoreThan};
+ghost use Rattle.paths.specs.Positions.{start_set, MoreThan};
 ghost use Rattle.paths.specs.Tables.{TableOf, Overfull};
 ghost use Rattle.paths.specs.Texts.{steps_of};
 
 use crate::path::Path;
 use crate::sets::Sets;
-use base::table::Table;
+use base::table::{Row, Table};
 use text::labels::Labels;
 use text::refusal::Refusal;
 
@@ -22,14 +22,8 @@ impl Path {
             labels,
             sets: Sets::new(),
         };
-        let targets = scan.targets().ok_or(Refusal::TooManySets)?;
-        Table::new(
-            labels.count(),
-            scan.sets.count(),
-            0,
-            targets,
-            scan.accepting(),
-        )
+        let rows = scan.rows().ok_or(Refusal::TooManySets)?;
+        Table::new(labels.count(), scan.sets.count(), 0, rows)
     }
 }
 
@@ -44,46 +38,38 @@ struct Scan<'a> {
 impl<'a> Scan<'a> {
     ghost use Rattle.paths.specs.Scans.{steps_in, labels_in, sets_in, Kept, RowOf, StuckAt, AllScanned};
 
-    // The targets of all states that are met; nothing where the sets run out of numbers.
-    fn targets(&mut self) -> Option<[[u8; 16]; 32]>
+    // The rows of all states that are met; nothing where the sets run out of numbers.
+    fn rows(&mut self) -> Option<[Row; 32]>
         requires { sets_in self.old ≡ start_set ∷ [] }
-        ensures targets { MatchOption result (MoreThan 32 (steps_in self.old) (labels_in self.old)) (AllScanned self.old self.new) }
+        ensures rows { MatchOption result (MoreThan 32 (steps_in self.old) (labels_in self.old)) (AllScanned self.old self.new) }
         ensures kept { Kept self.old self.new }
     {
-        let mut targets = [[0; 16]; 32];
+        let mut rows = [Row {
+            targets: [0; 16],
+            accepts: false,
+        }; 32];
         let mut state = 0;
         // No `for`: a row may meet further sets, which are states too.
         while state < self.sets.count() {
-            targets[state as usize] = self.row(state)?;
+            rows[state as usize] = self.row(state)?;
             state += 1;
         }
-        Some(targets)
+        Some(rows)
     }
 
-    // The targets of one state; nothing where the sets run out of numbers.
-    fn row(&mut self, state: u8) -> Option<[u8; 16]>
+    // The row of one state; nothing where the sets run out of numbers.
+    fn row(&mut self, state: u8) -> Option<Row>
         requires { state < length (sets_in self.old) }
         ensures row { MatchOption result (StuckAt self.old state self.new) (RowOf self.old state self.new) }
         ensures kept { Kept self.old self.new }
     {
         let set = self.sets.set(state);
-        let mut row = [0; 16];
+        let mut targets = [0; 16];
         let n = self.labels.count() as usize;
-        for (label, target) in row[..n].iter_mut().enumerate() {
+        for (label, target) in targets[..n].iter_mut().enumerate() {
             *target = self.sets.number(set.moved(self.path, label as u8))?;
         }
-        Some(row)
-    }
-
-    // Which states hold the position behind all steps.
-    fn accepting(&self) -> [bool; 32]
-        ensures { (p : ℕ) → p < length (sets_in self.now) → Decides (slice_index_or result p false) (Holds (slice_index (sets_in self.now) p) (length (steps_in self.now))) }
-    {
-        let last = self.path.steps().len();
-        let mut yes = [false; 32];
-        for p in 0..self.sets.count() {
-            yes[p as usize] = self.sets.set(p).holds(last);
-        }
-        yes
+        let accepts = set.holds(self.path.steps().len());
+        Some(Row { targets, accepts })
     }
 }

@@ -18,14 +18,14 @@ use Rattle.paths.proofs.path.Path.table.Goals as goal
 few_labels : (l : Labels) (n : ℕ) → n ≡ length (names_of l) → (1 ≤ n) × (n ≤ 16)
 few_labels l n e = (omega (arith, l.some), omega (arith, few_names l.names))
 
-pub returns-in_err-targets : goal.returns-in_err-targets
-returns-in_err-targets c =
+pub returns-in_err-rows : goal.returns-in_err-rows
+returns-in_err-rows c =
     let steps = steps_of c.args.self.now in
     let n = length (names_of c.args.labels.now) in
     let begun : Scan = record { path = c.args.self; labels = c.args.labels; sets = c.new.result } in
-    let many = MatchOption-at_none (MoreThan 32 steps n) (AllScanned begun c.targets.new.self) c.in_err-targets.ensures.ok_part c.targets.ensures.targets in
+    let many = MatchOption-at_none (MoreThan 32 steps n) (AllScanned begun c.rows.new.self) c.in_err-rows.ensures.ok_part c.rows.ensures.rows in
     let p = err_from_is_err_and c.from_residual.result c.from_residual.ensures.1 in
-    let why : c.in_err-targets.field-0.0 ≡ TooManySets = grind arith in
+    let why : c.in_err-rows.field-0.0 ≡ TooManySets = grind arith in
     rw (p.1, p.2, why) (many_sets many)
 
 pub returns : goal.returns
@@ -33,12 +33,11 @@ returns c =
     let steps = steps_of c.args.self.now in
     let n = length (names_of c.args.labels.now) in
     let begun : Scan = record { path = c.args.self; labels = c.args.labels; sets = c.new.result } in
-    let scan = c.targets.new.self in
+    let scan = c.rows.new.self in
     let sets = scan.sets in
-    let scanned = MatchOption-at_some (MoreThan 32 steps n) (AllScanned begun scan) _ c.in_ok-targets.ensures.ok_part c.targets.ensures.targets in
+    let scanned = MatchOption-at_some (MoreThan 32 steps n) (AllScanned begun scan) _ c.in_ok-rows.ensures.ok_part c.rows.ensures.rows in
     subst (λ m. MatchResult c.new-2.result (TableOf steps m) (Overfull steps m)) c.count.ensures
-    (tabled steps c.count.result (sets_in scan) c.count-2.result c.in_ok-targets.targets c.accepting.result (few_labels c.args.labels.now _ c.count.ensures) (omega (arith, sets.some), omega (arith, sets_fit sets)) c.count-2.ensures
+    (tabled steps c.count.result (sets_in scan) c.count-2.result c.in_ok-rows.rows (few_labels c.args.labels.now _ c.count.ensures) (omega (arith, sets.some), omega (arith, sets_fit sets)) c.count-2.ensures
     (rw (c.count.ensures, c.count-2.ensures) scanned)
     (λ p q h k. sets.distinct p q h (omega arith))
-    (λ p h. rw (← c.targets.ensures.kept.path) (c.accepting.ensures p (omega arith)))
     c.new-2.result c.new-2.ensures)

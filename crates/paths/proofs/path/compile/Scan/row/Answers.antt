@@ -5,7 +5,7 @@ use Rattle.text.proofs.Naming.{few_names}
 use Rattle.paths.specs.Scans.{steps_in, labels_in, sets_in}
 use Rattle.paths.specs.Sets.{sets_of}
 use Rattle.paths.specs.Texts.{steps_of}
-use Rattle.paths.proofs.Rows.{row_none, row_more, row_as, stuck_at, led_by}
+use Rattle.paths.proofs.Rows.{row_none, row_more, row_as, stuck_at, led_by, says_by}
 use Rattle.paths.proofs.path.compile.Scan.row.Goals as goal
 
 pub loop-label-init : goal.loop-label-init
@@ -30,5 +30,7 @@ loop-label-preserved c =
 pub returns-clause-row : goal.returns-clause-row
 returns-clause-row c =
     let self = c.args.self.now in
-    let all : c.loop-label.label ≡ labels_in self = omega (arith, c.loop-label.invariant.long) in
-    row_as (steps_in self) _ (sets_in self) _ _ _ _ (λ b h. get_or_append_left c.loop-label.target-items _ 0 b (omega (arith, c.loop-label.invariant.long))) (rw (← all) c.loop-label.invariant.row)
+    let all : c.loop-label.label ≡ labels_in self = omega (arith, c.loop-label.invariant.long) in (
+      row_as (steps_in self) _ (sets_in self) _ _ _ _ (λ b h. get_or_append_left c.loop-label.target-items _ 0 b (omega (arith, c.loop-label.invariant.long))) (rw (← all) c.loop-label.invariant.row),
+      says_by (steps_in self) _ _ _ _ (c.steps.ensures ∙ ap steps_of c.loop-label.invariant.kept.path) c.set-set.ensures c.holds-accepts.ensures,
+    )

@@ -2,25 +2,25 @@
 use Rattle.std.proofs.Common.{refl, ◌∙◌, arith, length-set}
 use Rattle.paths.specs.Scans.{steps_in, labels_in}
 use Rattle.paths.proofs.Scanning.{sets_fit, scan_none, scan_more, scan_stuck}
-use Rattle.paths.proofs.path.compile.Scan.targets.Goals as goal
+use Rattle.paths.proofs.path.compile.Scan.rows.Goals as goal
 
 pub loop-state-init : goal.loop-state-init
 loop-state-init c = record { long = refl; kept = record { path = refl; labels = refl }; scanned = scan_none (steps_in c.args.self.now) (labels_in c.args.self.now) _ _ c.requires }
 
-pub returns-in_err-targets-clause-targets : goal.returns-in_err-targets-clause-targets
-returns-in_err-targets-clause-targets c =
+pub returns-in_err-rows-clause-rows : goal.returns-in_err-rows-clause-rows
+returns-in_err-rows-clause-rows c =
     let self = c.args.self.now in
     let kept = c.loop-state.invariant.kept in
-    let stuck = rw (kept.path, kept.labels) at c.in_err-targets.ensures.row in
+    let stuck = rw (kept.path, kept.labels) at c.in_err-rows.ensures.row in
     rw c.from_residual.ensures (scan_stuck (steps_in self) (labels_in self) _ _ _ _ (omega arith) c.row.new.self.sets.distinct c.loop-state.invariant.scanned stuck)
 
 pub loop-state-preserved : goal.loop-state-preserved
 loop-state-preserved c =
     let self = c.args.self.now in
     let kept = c.loop-state.invariant.kept in
-    let row = rw (kept.path, kept.labels) at c.in_ok-targets.ensures.row in
+    let row = rw (kept.path, kept.labels) at c.in_ok-rows.ensures.row in
     record {
       long = simp length-set c.loop-state.invariant.long;
-      kept = record { path = c.in_ok-targets.ensures.kept.path ∙ kept.path; labels = c.in_ok-targets.ensures.kept.labels ∙ kept.labels };
-      scanned = scan_more (steps_in self) (labels_in self) _ _ _ _ _ (omega (arith, sets_fit c.loop-state.self.sets)) (omega arith) c.loop-state.invariant.scanned row;
+      kept = record { path = c.in_ok-rows.ensures.kept.path ∙ kept.path; labels = c.in_ok-rows.ensures.kept.labels ∙ kept.labels };
+      scanned = scan_more (steps_in self) (labels_in self) _ _ _ _ _ (omega (arith, sets_fit c.loop-state.self.sets)) (omega arith) c.loop-state.invariant.scanned row.0 row.1;
     }
