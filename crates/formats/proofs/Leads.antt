@@ -3,6 +3,13 @@ use Rattle.std.proofs.Common.{◌≡◌, ℕ, List, sym, ap, ◌∙◌}
 use Rattle.formats.specs.Reading.{Form, Found, Missing}
 
 module _ {V : Type 0} (form : Form V) (s : List ℕ) where
+  -- the same values, in other words
+  pub found_as : {same same' : V → Type 0} (left : List ℕ) → Found form s same left → ((v : V) → same' v → same v) → ((v : V) → same v → same' v) → Found form s same' left
+  found_as left found from to = record {
+    written = λ v h. found.written v (from v h);
+    only = λ v tail r e. let o = found.only v tail r e in (to v o.0, o.1);
+  }
+
   -- a value is written at the front of s, if it is the same as what was read and the left is what remains of it
   pub record Leads (same : V → Type 0) (left : List ℕ) (remains : V → List ℕ → List ℕ) : Type 0 where
     pub back : (v : V) (tail : List ℕ) → same v → left ≡ remains v tail → s ≡ form.write v tail

@@ -1,13 +1,16 @@
 -- Targets and rows that are read into arrays, one more.
-use Rattle.std.proofs.Common.{◌≡◌, ℕ, zero, suc, ◌+◌, ◌-◌, ◌<◌, ◌≤◌, Bool, false, ◌≢◌, List, [], ◌∷◌, ◌++◌, map, length, get_or, set, codes, decimal, sym, refl, ap, ◌∙◌, subst, ⊎_elim, arith, below_more}
+use Rattle.std.proofs.Common.{◌≡◌, ℕ, zero, suc, ◌+◌, ◌-◌, ◌<◌, ◌≤◌, Bool, ◌≢◌, List, [], ◌∷◌, ◌++◌, map, length, get_or, set, codes, decimal, sym, refl, ap, ◌∙◌, subst, ⊎_elim, arith, below_more}
+use native.Mathlib.Nat.{sub-zero}
 use Rattle.std.specs.List.{range_with_len}
-use Rattle.std.proofs.lemmas.List.{append_cancel_left, get_or-set_same, get_or-set_other}
+use Rattle.std.proofs.lemmas.List.{append_cancel_left, get_or_append_left, get_or-set_same, get_or-set_other}
 use Rattle.std.proofs.lemmas.Bool.{cases_lt}
+use Rattle.base.specs.declared.table.Row.{Row}
+use Rattle.base.specs.Rows.{no_row}
 use Rattle.formats.specs.Lines.{ending, line, lines}
-use Rattle.formats.specs.Forms.{number_form, answer_form, targets_form, row_form, rows_form, Stored, Filled}
+use Rattle.formats.specs.Forms.{number_form, answer_form, targets_form, row_form, rows_form, Stored, HasRow, Filled}
 use Rattle.formats.specs.Reading.{Found, Missing}
 use Rattle.formats.specs.TableText.{answer, row_line}
-use Rattle.formats.proofs.Leads.{Leads, leads_all, leads_none, leads_more}
+use Rattle.formats.proofs.Leads.{Leads, found_as, leads_all, leads_none, leads_more}
 
 module _ {X : Type 0} (P : ℕ → X → Type 0) (xs : List X) (n : ℕ) (x d : X) (l : n < length xs) where
   -- the array has what P asks for at each place below the bound
@@ -24,6 +27,14 @@ module _ {X : Type 0} (P : ℕ → X → Type 0) (xs : List X) (n : ℕ) (x d : 
   kept_less all =
       (λ k h. let ne : k ≢ n = omega arith in subst (P k) (get_or-set_other xs n k x d ne) (all k (omega arith)), subst (P n) (get_or-set_same xs n x d l) (all n (omega arith)))
 
+-- the places below the bound stay where others come behind them
+module _ {X : Type 0} (P : ℕ → X → Type 0) (xs ys : List X) (n : ℕ) (d : X) (long : length xs ≡ n) where
+  kept_longer : ((k : ℕ) → k < n → P k (get_or xs k d)) → (k : ℕ) → k < n → P k (get_or (xs ++ ys) k d)
+  kept_longer h k l = subst (P k) (sym (get_or_append_left xs ys d k (omega arith))) (h k l)
+
+  kept_shorter : ((k : ℕ) → k < n → P k (get_or (xs ++ ys) k d)) → (k : ℕ) → k < n → P k (get_or xs k d)
+  kept_shorter h k l = subst (P k) (get_or_append_left xs ys d k (omega arith)) (h k l)
+
 ending_some : (f : ℕ → List ℕ) (a n : ℕ) → 0 < n → ending (map f (range_with_len a n)) ≡ 9
 ending_some f a zero h = absurd (omega arith)
 ending_some f a (suc n) h = refl
@@ -39,6 +50,12 @@ targets_from labels a step = line (map (λ b. decimal (step b)) (range_with_len 
 -- the targets of the labels below a are read
 abbrev pub TargetsRead : ℕ → List ℕ → ℕ → List ℕ → List ℕ → Type 0
 TargetsRead labels s a targets left = Leads (targets_form labels) s (Stored a targets) left (targets_from labels a)
+
+pub no_targets : (labels : ℕ) (s targets : List ℕ) → TargetsRead labels s 0 targets s
+no_targets labels s targets = record { back = λ step tail h e. e ∙ whole step tail; on = λ step tail r e. (λ a h. absurd (omega arith), e ∙ sym (whole step tail)) }
+  where
+    whole : (step : ℕ → ℕ) (tail : List ℕ) → targets_from labels 0 step tail ≡ (targets_form labels).write step tail
+    whole step tail = ap (λ n. line (map (λ a. decimal (step a)) (range_with_len 0 n)) tail) (sub-zero labels)
 
 module _ (labels : ℕ) (s : List ℕ) (a : ℕ) (targets left : List ℕ) (end : ℕ) (h : a < labels) (tab : a + 1 < labels → end ≡ 9) (newline : labels ≤ a + 1 → end ≡ 10) (lead : TargetsRead labels s a targets left) where
   begins : (step : ℕ → ℕ) (tail : List ℕ) → targets_from labels a step tail ≡ decimal (step a) ++ end ∷ targets_from labels (a + 1) step tail
@@ -59,6 +76,15 @@ module _ (labels : ℕ) (s : List ℕ) (a : ℕ) (targets left : List ℕ) (end 
   pub target_more : (t : ℕ) (rest : List ℕ) → a < length targets → Found (number_form end) left (λ n. n ≡ t) rest → TargetsRead labels s (a + 1) (set targets a t) rest
   target_more t rest l =
       leads_more (targets_form labels) s (number_form end) (λ step. step a) (λ step r. r a h) (Stored a targets) left (targets_from labels a) (targets_from labels (a + 1)) begins lead (λ n. n ≡ t) rest (Stored (a + 1) (set targets a t)) (λ step. kept_more (λ k y. step k ≡ y) targets a t 0 l) (λ step. kept_less (λ k y. step k ≡ y) targets a t 0 l)
+
+-- all targets are read, and the array is longer
+pub targets_found : (labels : ℕ) (s : List ℕ) (a : ℕ) (targets others left : List ℕ) → a ≡ labels → length targets ≡ labels → TargetsRead labels s a targets left → Found (targets_form labels) s (Stored labels (targets ++ others)) left
+targets_found labels s a targets others left all long lead =
+    let none : labels - a ≡ 0 = omega arith in
+    let found = leads_all (targets_form labels) s (Stored a targets) left (targets_from labels a) (λ step tail. ap (λ n. line (map (λ b. decimal (step b)) (range_with_len a n)) tail) none) lead in
+    found_as (targets_form labels) s left found
+    (λ v h b k. kept_shorter (λ b y. v b ≡ y) targets others labels 0 long h b (omega arith))
+    (λ v h. kept_longer (λ b y. v b ≡ y) targets others labels 0 long (λ b k. h b (omega arith)))
 
 -- the word and the state of a row are read
 module _ (labels p n : ℕ) (some : 1 ≤ labels) (fits : p < 256) (is : n ≡ p) (s row after : List ℕ) (word : s ≡ codes "row" ++ 9 ∷ row) (number : Found (number_form 9) row (λ m. m ≡ n) after) where
@@ -93,19 +119,25 @@ module _ (labels p n : ℕ) (some : 1 ≤ labels) (fits : p < 256) (is : n ≡ p
     targets_missing =
         leads_none (row_form labels p) s (targets_form labels) (λ v. v.1) (λ _ r. r) (λ v. v.0 ≡ accepts) fields targets_on (λ _ tail. tail) (λ _ _. refl) answer_read
 
-    pub row_found : (targets rest : List ℕ) → Found (targets_form labels) fields (Stored labels targets) rest → Found (row_form labels p) s (λ v. (v.0 ≡ accepts) × Stored labels targets v.1) rest
+    pub row_found : (targets rest : List ℕ) → Found (targets_form labels) fields (Stored labels targets) rest → Found (row_form labels p) s (HasRow labels (record { targets = targets; accepts = accepts })) rest
     row_found targets rest read =
-        leads_all (row_form labels p) s (λ v. (v.0 ≡ accepts) × Stored labels targets v.1) rest (λ _ tail. tail) (λ _ _. refl) (leads_more (row_form labels p) s (targets_form labels) (λ v. v.1) (λ _ r. r) (λ v. v.0 ≡ accepts) fields targets_on (λ _ tail. tail) (λ _ _. refl) answer_read (Stored labels targets) rest (λ v. (v.0 ≡ accepts) × Stored labels targets v.1) (λ _ h k. (h, k)) (λ _ h. h) read)
+        leads_all (row_form labels p) s (HasRow labels (record { targets = targets; accepts = accepts })) rest (λ _ tail. tail) (λ _ _. refl) (leads_more (row_form labels p) s (targets_form labels) (λ v. v.1) (λ _ r. r) (λ v. v.0 ≡ accepts) fields targets_on (λ _ tail. tail) (λ _ _. refl) answer_read (Stored labels targets) rest (HasRow labels (record { targets = targets; accepts = accepts })) (λ _ h k. (h, k)) (λ _ h. h) read)
 
 -- the rows of the states from p on
 abbrev rows_from : ℕ → ℕ → ℕ → (ℕ → Bool) × (ℕ → ℕ → ℕ) → List ℕ → List ℕ
 rows_from labels states p v = lines (map (λ q. row_line labels q (v.0 q) (v.1 q)) (range_with_len p (states - p)))
 
 -- the rows of the states below p are read
-abbrev pub RowsRead : ℕ → ℕ → List ℕ → ℕ → List (List ℕ) → List Bool → List ℕ → Type 0
-RowsRead labels states s p targets accepting left = Leads (rows_form labels states) s (Filled labels p targets accepting) left (rows_from labels states p)
+abbrev pub RowsRead : ℕ → ℕ → List ℕ → ℕ → List Row → List ℕ → Type 0
+RowsRead labels states s p rows left = Leads (rows_form labels states) s (Filled labels p rows) left (rows_from labels states p)
 
-module _ (labels states : ℕ) (s : List ℕ) (p : ℕ) (targets : List (List ℕ)) (accepting : List Bool) (left : List ℕ) (h : p < states) (lead : RowsRead labels states s p targets accepting left) where
+pub no_rows : (labels states : ℕ) (s : List ℕ) (rows : List Row) → RowsRead labels states s 0 rows s
+no_rows labels states s rows = record { back = λ v tail h e. e ∙ whole v tail; on = λ v tail r e. (λ p h. absurd (omega arith), e ∙ sym (whole v tail)) }
+  where
+    whole : (v : (ℕ → Bool) × (ℕ → ℕ → ℕ)) (tail : List ℕ) → rows_from labels states 0 v tail ≡ (rows_form labels states).write v tail
+    whole v tail = ap (λ n. lines (map (λ q. row_line labels q (v.0 q) (v.1 q)) (range_with_len 0 n)) tail) (sub-zero states)
+
+module _ (labels states : ℕ) (s : List ℕ) (p : ℕ) (rows : List Row) (left : List ℕ) (h : p < states) (lead : RowsRead labels states s p rows left) where
   row_begins : (v : (ℕ → Bool) × (ℕ → ℕ → ℕ)) (tail : List ℕ) → rows_from labels states p v tail ≡ (row_form labels p).write (v.0 p, v.1 p) (rows_from labels states (p + 1) v tail)
   row_begins v tail =
       let e : states - p ≡ suc (states - (p + 1)) = omega arith in
@@ -113,24 +145,19 @@ module _ (labels states : ℕ) (s : List ℕ) (p : ℕ) (targets : List (List �
 
   pub row_missing : Missing (row_form labels p) left → Missing (rows_form labels states) s
   row_missing =
-      leads_none (rows_form labels states) s (row_form labels p) (λ v. (v.0 p, v.1 p)) (λ v r. r p h) (Filled labels p targets accepting) left (rows_from labels states p) (rows_from labels states (p + 1)) row_begins lead
+      leads_none (rows_form labels states) s (row_form labels p) (λ v. (v.0 p, v.1 p)) (λ v r. r p h) (Filled labels p rows) left (rows_from labels states p) (rows_from labels states (p + 1)) row_begins lead
 
-  module _ (accepts : Bool) (row : List ℕ) (l : p < length targets) (k : p < length accepting) (v : (ℕ → Bool) × (ℕ → ℕ → ℕ)) where
-    filled_more : Filled labels p targets accepting v → (v.0 p ≡ accepts) × Stored labels row (v.1 p) → Filled labels (p + 1) (set targets p row) (set accepting p accepts) v
-    filled_more below here q j =
-        (kept_more (λ q y. v.0 q ≡ y) accepting p accepts false k (λ i m. (below i m).0) here.0 q j, kept_more (λ q ts. Stored labels ts (v.1 q)) targets p row [] l (λ i m. (below i m).1) here.1 q j)
+  pub row_more : (r : Row) (rest : List ℕ) → p < length rows → Found (row_form labels p) left (HasRow labels r) rest → RowsRead labels states s (p + 1) (set rows p r) rest
+  row_more r rest l =
+      leads_more (rows_form labels states) s (row_form labels p) (λ v. (v.0 p, v.1 p)) (λ v r. r p h) (Filled labels p rows) left (rows_from labels states p) (rows_from labels states (p + 1)) row_begins lead (HasRow labels r) rest (Filled labels (p + 1) (set rows p r))
+      (λ v. kept_more (λ q x. HasRow labels x (v.0 q, v.1 q)) rows p r no_row l)
+      (λ v. kept_less (λ q x. HasRow labels x (v.0 q, v.1 q)) rows p r no_row l)
 
-    filled_less : Filled labels (p + 1) (set targets p row) (set accepting p accepts) v → Filled labels p targets accepting v × ((v.0 p ≡ accepts) × Stored labels row (v.1 p))
-    filled_less all =
-        let a = kept_less (λ q y. v.0 q ≡ y) accepting p accepts false k (λ i m. (all i m).0) in
-        let t = kept_less (λ q ts. Stored labels ts (v.1 q)) targets p row [] l (λ i m. (all i m).1) in
-        (λ q j. (a.0 q j, t.0 q j), (a.1, t.1))
-
-  pub row_more : (accepts : Bool) (row rest : List ℕ) → p < length targets → p < length accepting → Found (row_form labels p) left (λ w. (w.0 ≡ accepts) × Stored labels row w.1) rest → RowsRead labels states s (p + 1) (set targets p row) (set accepting p accepts) rest
-  row_more accepts row rest l k =
-      leads_more (rows_form labels states) s (row_form labels p) (λ v. (v.0 p, v.1 p)) (λ v r. r p h) (Filled labels p targets accepting) left (rows_from labels states p) (rows_from labels states (p + 1)) row_begins lead (λ w. (w.0 ≡ accepts) × Stored labels row w.1) rest (Filled labels (p + 1) (set targets p row) (set accepting p accepts)) (filled_more accepts row l k) (filled_less accepts row l k)
-
-pub rows_found : (labels states : ℕ) (s : List ℕ) (p : ℕ) (targets : List (List ℕ)) (accepting : List Bool) (left : List ℕ) → p ≡ states → RowsRead labels states s p targets accepting left → Found (rows_form labels states) s (Filled labels states targets accepting) left
-rows_found labels states s p targets accepting left all lead =
+-- all rows are read, and the array is longer
+pub rows_found : (labels states : ℕ) (s : List ℕ) (p : ℕ) (rows others : List Row) (left : List ℕ) → p ≡ states → length rows ≡ states → RowsRead labels states s p rows left → Found (rows_form labels states) s (Filled labels states (rows ++ others)) left
+rows_found labels states s p rows others left all long lead =
     let none : states - p ≡ 0 = omega arith in
-    subst (λ (q : ℕ). Found (rows_form labels states) s (Filled labels q targets accepting) left) all (leads_all (rows_form labels states) s (Filled labels p targets accepting) left (rows_from labels states p) (λ v tail. ap (λ n. lines (map (λ q. row_line labels q (v.0 q) (v.1 q)) (range_with_len p n)) tail) none) lead)
+    let found = leads_all (rows_form labels states) s (Filled labels p rows) left (rows_from labels states p) (λ v tail. ap (λ n. lines (map (λ q. row_line labels q (v.0 q) (v.1 q)) (range_with_len p n)) tail) none) lead in
+    found_as (rows_form labels states) s left found
+    (λ v h q k. kept_shorter (λ q x. HasRow labels x (v.0 q, v.1 q)) rows others states no_row long h q (omega arith))
+    (λ v h. kept_longer (λ q x. HasRow labels x (v.0 q, v.1 q)) rows others states no_row long (λ q k. h q (omega arith)))

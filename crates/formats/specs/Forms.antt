@@ -1,6 +1,8 @@
 -- The parts of a table text that are read one after the other.
-use Rattle.std.specs.Prelude.{◌≡◌, ℕ, ◌<◌, Bool, false, List, [], ◌∷◌, ◌++◌, map, decimal, slice_index, slice_index_or}
+use Rattle.std.specs.Prelude.{◌≡◌, ℕ, ◌<◌, Bool, List, ◌∷◌, ◌++◌, map, decimal, slice_index}
 use Rattle.std.specs.List.{range_with_len}
+use Rattle.base.specs.declared.table.Row.{Row}
+use Rattle.base.specs.Rows.{row}
 use Rattle.formats.specs.Lines.{line, lines}
 use Rattle.formats.specs.Reading.{Form}
 use Rattle.formats.specs.TableText.{states_line, answer, row_line, Bounded}
@@ -39,6 +41,10 @@ rows_form labels states = record {
 abbrev pub Stored : ℕ → List ℕ → (ℕ → ℕ) → Type 0
 Stored labels targets step = (a : ℕ) → a < labels → step a ≡ slice_index targets a
 
--- the arrays have these rows
-abbrev pub Filled : ℕ → ℕ → List (List ℕ) → List Bool → (ℕ → Bool) × (ℕ → ℕ → ℕ) → Type 0
-Filled labels states targets accepting v = (p : ℕ) → p < states → (v.0 p ≡ slice_index_or accepting p false) × Stored labels (slice_index_or targets p []) (v.1 p)
+-- the row has this answer and these targets
+abbrev pub HasRow : ℕ → Row → Bool × (ℕ → ℕ) → Type 0
+HasRow labels r v = (v.0 ≡ r.accepts) × Stored labels r.targets v.1
+
+-- the array has these rows
+abbrev pub Filled : ℕ → ℕ → List Row → (ℕ → Bool) × (ℕ → ℕ → ℕ) → Type 0
+Filled labels states rows v = (p : ℕ) → p < states → HasRow labels (row rows p) (v.0 p, v.1 p)

@@ -4,4 +4,5 @@
 mod fields;
 pub mod label_line;
 mod rows;
+mod states;
 pub mod table_text;

@@ -1,47 +1,45 @@
 //! The rows of a table text.
-ghost use Rattle.std.specs.Prelude.{◌≡◌, ◌≤◌, MatchOption};
-ghost use Rattle.formats.specs.Forms.{answer_form, targets_form, row_form, rows_form, Stored, Filled};
+ghost use Rattle.std.specs.Prelude.{◌≡◌, length, MatchOption};
+ghost use Rattle.text.specs.Labelled.{names_of};
+ghost use Rattle.formats.specs.Forms.{answer_form, targets_form, row_form, rows_form, Stored, HasRow, Filled};
 ghost use Rattle.formats.specs.Reading.{Found, Missing};
 
 use crate::fields::take_number;
-
-/// The rows of the states, in the arrays that a table has.
-#[derive(Clone, Copy)]
-pub(crate) struct Rows {
-    pub(crate) targets: [[u8; 16]; 32],
-    pub(crate) accepting: [bool; 32],
-}
+use crate::states::States;
+use base::table::Row;
+use text::labels::Labels;
 
 /// The rows of so many states, and what comes after them.
-pub(crate) fn take_rows(text: &[u8], labels: u8, states: u8) -> Option<(Rows, &[u8])>
-    requires { (1 ≤ labels) × ((labels ≤ 16) × (states ≤ 32)) }
-    ensures { MatchOption result (Missing (rows_form labels states) text.now) (λ p. Found (rows_form labels states) text.now (Filled labels states p.0.targets p.0.accepting) p.1.now) }
+pub(crate) fn take_rows<'a>(
+    text: &'a [u8],
+    labels: &Labels,
+    states: States,
+) -> Option<([Row; 32], &'a [u8])>
+    ensures { MatchOption result (Missing (rows_form (length (names_of labels.now)) states.count) text.now) (λ p. Found (rows_form (length (names_of labels.now)) states.count) text.now (Filled (length (names_of labels.now)) states.count p.0) p.1.now) }
 {
-    let mut targets = [[0; 16]; 32];
-    let mut accepting = [false; 32];
+    let mut rows = [Row {
+        targets: [0; 16],
+        accepts: false,
+    }; 32];
     let mut left = text;
-    for state in 0..states {
-        let (yes, row, rest) = take_row(left, state, labels)?;
-        targets[state as usize] = row;
-        accepting[state as usize] = yes;
-        left = rest;
+    for (state, row) in rows[..states.count as usize].iter_mut().enumerate() {
+        (*row, left) = take_row(left, labels, state as u8)?;
     }
-    Some((Rows { targets, accepting }, left))
+    Some((rows, left))
 }
 
-// Whether the state of this row is a yes state, its targets by label, and what comes after the row.
-fn take_row(text: &[u8], state: u8, labels: u8) -> Option<(bool, [u8; 16], &[u8])>
-    requires { (1 ≤ labels) × (labels ≤ 16) }
-    ensures { MatchOption result (Missing (row_form labels state) text.now) (λ p. Found (row_form labels state) text.now (λ v. (v.0 ≡ p.0) × Stored labels p.1 v.1) p.2.now) }
+// The row of this state, and what comes after it.
+fn take_row<'a>(text: &'a [u8], labels: &Labels, state: u8) -> Option<(Row, &'a [u8])>
+    ensures { MatchOption result (Missing (row_form (length (names_of labels.now)) state) text.now) (λ p. Found (row_form (length (names_of labels.now)) state) text.now (HasRow (length (names_of labels.now)) p.0) p.1.now) }
 {
     let row = text.strip_prefix(b"row\t")?;
     let (number, after) = take_number(b'\t', row)?;
     if number != state {
         return None;
     }
-    let (yes, fields) = take_answer(after)?;
+    let (accepts, fields) = take_answer(after)?;
     let (targets, rest) = take_targets(fields, labels)?;
-    Some((yes, targets, rest))
+    Some((Row { targets, accepts }, rest))
 }
 
 // Yes or no, and what comes after it and its tab.
@@ -56,17 +54,15 @@ fn take_answer(text: &[u8]) -> Option<(bool, &[u8])>
 }
 
 // The targets of a row by label, and what comes after their line.
-fn take_targets(text: &[u8], labels: u8) -> Option<([u8; 16], &[u8])>
-    requires { labels ≤ 16 }
-    ensures { MatchOption result (Missing (targets_form labels) text.now) (λ p. Found (targets_form labels) text.now (Stored labels p.0) p.1.now) }
+fn take_targets<'a>(text: &'a [u8], labels: &Labels) -> Option<([u8; 16], &'a [u8])>
+    ensures { MatchOption result (Missing (targets_form (length (names_of labels.now))) text.now) (λ p. Found (targets_form (length (names_of labels.now))) text.now (Stored (length (names_of labels.now)) p.0) p.1.now) }
 {
+    let count = labels.count() as usize;
     let mut targets = [0; 16];
     let mut left = text;
-    for label in 0..labels {
-        let end = if label + 1 < labels { b'\t' } else { b'\n' };
-        let (target, rest) = take_number(end, left)?;
-        targets[label as usize] = target;
-        left = rest;
+    for (label, target) in targets[..count].iter_mut().enumerate() {
+        let end = if label + 1 < count { b'\t' } else { b'\n' };
+        (*target, left) = take_number(end, left)?;
     }
     Some((targets, left))
 }

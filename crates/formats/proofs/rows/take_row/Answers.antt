@@ -5,17 +5,17 @@ use Rattle.formats.proofs.Storing.{answer_missing, targets_missing, row_found}
 use Rattle.formats.proofs.rows.take_row.Goals as goal
 use Rattle.std.proofs.lemmas.Bool.Decides.{Decides-eqb}
 
-pub returns-in_err-yes : goal.returns-in_err-yes
-returns-in_err-yes c =
+pub returns-in_err-accepts : goal.returns-in_err-accepts
+returns-in_err-accepts c =
     let word = strip_prefix_is Decides-eqb c.args.text.now (codes "row" ++ 9 ∷ []) (Some c.in_ok-row.row) c.in_ok-row.ensures.cases in
-    rw c.from_residual-in_err-yes.ensures (answer_missing _ _ _ c.requires.0 (search rules) c.if-number-state.false _ _ _ word c.in_ok-number.ensures c.in_err-yes.ensures)
+    rw c.from_residual-in_err-accepts.ensures (answer_missing _ _ _ c.args.labels.now.some (search rules) c.if-number-state.false _ _ _ word c.in_ok-number.ensures c.in_err-accepts.ensures)
 
 pub returns-in_err-targets : goal.returns-in_err-targets
 returns-in_err-targets c =
     let word = strip_prefix_is Decides-eqb c.args.text.now (codes "row" ++ 9 ∷ []) (Some c.in_ok-row.row) c.in_ok-row.ensures.cases in
-    rw c.from_residual-in_err-targets.ensures (targets_missing _ _ _ c.requires.0 (search rules) c.if-number-state.false _ _ _ word c.in_ok-number.ensures _ _ c.in_ok-yes.ensures c.in_err-targets.ensures)
+    rw c.from_residual-in_err-targets.ensures (targets_missing _ _ _ c.args.labels.now.some (search rules) c.if-number-state.false _ _ _ word c.in_ok-number.ensures _ _ c.in_ok-accepts.ensures c.in_err-targets.ensures)
 
 pub returns : goal.returns
 returns c =
     let word = strip_prefix_is Decides-eqb c.args.text.now (codes "row" ++ 9 ∷ []) (Some c.in_ok-row.row) c.in_ok-row.ensures.cases in
-    row_found _ _ _ c.requires.0 (search rules) c.if-number-state.false _ _ _ word c.in_ok-number.ensures _ _ c.in_ok-yes.ensures _ _ c.in_ok-targets.ensures
+    row_found _ _ _ c.args.labels.now.some (search rules) c.if-number-state.false _ _ _ word c.in_ok-number.ensures _ _ c.in_ok-accepts.ensures _ _ c.in_ok-targets.ensures
