@@ -1,12 +1,11 @@
 -- The first line of a text, put together again from its fields.
-use Rattle.std.proofs.Common.{◌≡◌, ℕ, Bool, true, false, cond, List, ◌∷◌, ◌++◌, Ok, Err, codes, Result, sym, refl, ap, ◌∙◌, ⊎_elim, arith}
+use Rattle.std.proofs.Common.{◌≡◌, ℕ, Bool, true, false, cond, List, ◌∷◌, ◌++◌, Ok, Err, codes, Result, sym, refl, ap, ◌∙◌, arith}
 use Rattle.std.specs.Str.{bytes_eq}
 use Rattle.std.proofs.lemmas.Slice.Eq.{bytes_eq-Decides}
 use Rattle.std.proofs.lemmas.List.{append_assoc}
-use Rattle.std.proofs.lemmas.Bool.{cases_Bool, cond-false}
 use Rattle.std.proofs.lemmas.Bool.Decides.{nat_tests}
 use Rattle.text.specs.declared.refusal.Refusal.{Refusal}
-use Rattle.text.specs.declared.refusal.Refusal.TheVariants.{NotLabels, NameCount}
+use Rattle.text.specs.declared.refusal.Refusal.TheVariants.{NotLabels}
 use Rattle.text.specs.Pieces.{Pieces, last, next, split, listed, first, others}
 use Rattle.formats.specs.LabelLine.{by_rules, names_in, label_line, Headed, Unheaded, labels}
 use Rattle.formats.specs.Reading.{FirstLine}
@@ -21,22 +20,6 @@ line_listed : (ps : Pieces) (rest : List ℕ) → line (listed ps) rest ≡ rejo
 line_listed (last x) rest = refl
 line_listed (next x ps) rest =
     ap (λ e. x ++ e ∷ line (listed ps) rest) (ending_listed ps) ∙ ap (λ t. x ++ 9 ∷ t) (line_listed ps rest) ∙ sym (append_assoc x (9 ∷ rejoined 9 ps) (10 ∷ rest))
-
-pub alone_labels : (s : List ℕ) → s ≡ codes "labels" → Err NameCount ≡ names_in (split 9 s)
-alone_labels s e = rw e
-
--- neither `labels` alone nor before a tab
-pub not_labels : (s : List ℕ) → (s ≡ codes "labels" → ⊥) → ((rest : List ℕ) → s ≡ codes "labels" ++ 9 ∷ rest → ⊥) → Err NotLabels ≡ names_in (split 9 s)
-not_labels s alone before =
-    let word : (ps : Pieces) → rejoined 9 ps ≡ s → first ps ≡ codes "labels" → ⊥ = λ ps.
-    elim ps as (λ qs. rejoined 9 qs ≡ s → first qs ≡ codes "labels" → ⊥) [
-      | last x ↦ λ e h. alone (sym e ∙ h)
-      | next x qs ↦ λ e h. before (rejoined 9 qs) (sym e ∙ ap (λ t. t ++ 9 ∷ rejoined 9 qs) h)
-    ] in
-    ⊎_elim
-    (λ (e : bytes_eq (first (split 9 s)) (codes "labels") ≡ true). absurd (word (split 9 s) (rejoined_split 9 s) ((bytes_eq-Decides _ _).0 e)))
-    (λ (e : bytes_eq (first (split 9 s)) (codes "labels") ≡ false). sym (cond-false _ _ _ e))
-    (cases_Bool (bytes_eq (first (split 9 s)) (codes "labels")))
 
 rules_keep : (xs names : List (List ℕ)) → Ok names ≡ by_rules xs → xs ≡ names
 rules_keep xs names h = grind (arith, nat_tests)

@@ -59,10 +59,6 @@ module _ (sep : ℕ) where
         | false ↦ λ e. let rest = begin_last b (split sep (x ++ sep ∷ tail)) z e in not_last x tail rest.0 rest.1
       ]) e
 
--- `&s[0..n]` and `&s[n + 1..]` as the checker reads them
-pub cut_at : (sep : ℕ) (s : List ℕ) (n : ℕ) → n < length s → split sep s ≡ next (take n s) (split sep (drop (n + 1) s)) → (split sep s ≡ next (take (n - 0) s) (split sep (take (length s - (n + 1)) (drop (n + 1) s)))) × (length (take (length s - (n + 1)) (drop (n + 1) s)) < length s)
-cut_at sep s n h e = (rw (sub-zero, take_rest) e, rw take_rest (omega (arith, length-drop (n + 1) s)))
-
 -- a decimal text has no byte below the digits
 clear_decimal : (end n : ℕ) → end < 48 → n < 256 → Clear end (decimal n) (length (decimal n))
 clear_decimal end n low small k l e = omega (arith, ((written (decimal n) n small refl).digit k l).0)

@@ -106,10 +106,6 @@ module _ (labels p n : ℕ) (some : 1 ≤ labels) (fits : p < 256) (is : n ≡ p
         (tt, sym (number.only p (answer_on v tail) fits rest).1);
   }
 
-  pub answer_missing : Missing answer_form after → Missing (row_form labels p) s
-  answer_missing =
-      leads_none (row_form labels p) s answer_form (λ v. v.0) (λ _ _. tt) (λ _. Unit {0}) after answer_on targets_on (λ _ _. refl) state_read
-
   module _ (accepts : Bool) (fields : List ℕ) (found : Found answer_form after (λ y. y ≡ accepts) fields) where
     answer_read : Leads (row_form labels p) s (λ v. v.0 ≡ accepts) fields targets_on
     answer_read =

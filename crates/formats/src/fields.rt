@@ -12,7 +12,7 @@ pub(crate) fn split_once(sep: u8, text: &[u8]) -> Option<(&[u8], &[u8])>
     ensures { MatchOption result (split sep text.now ≡ last text.now) (λ p. (split sep text.now ≡ next p.0.now (split sep p.1.now)) × (length p.1.now < length text.now)) }
 {
     let n = place_of(sep, text)?;
-    Some((&text[0..n], &text[n + 1..]))
+    Some((&text[..n], &text[n + 1..]))
 }
 
 /// The number that the byte ends, and what comes after it.

@@ -1,14 +1,10 @@
 -- Sets as numbers: a read, a position more, and when two are equal.
-use Rattle.std.proofs.Common.{◌≡◌, ℕ, zero, suc, ◌+◌, ◌-◌, ◌*◌, ◌/◌, ◌%◌, ◌^◌, ◌<◌, eqb, ◌≢◌, ◌⊎◌, ◌↔◌, Decides, sym, refl, ap, ◌∙◌, subst, inl, inr, ⊎_elim, pow-suc, div-one, add-one, one-add, arith, pow_mono}
+use Rattle.std.proofs.Common.{◌≡◌, ℕ, zero, suc, ◌+◌, ◌-◌, ◌*◌, ◌/◌, ◌%◌, ◌^◌, ◌<◌, ◌≢◌, ◌⊎◌, ◌↔◌, sym, refl, ap, ◌∙◌, subst, inl, inr, ⊎_elim, pow-suc, div-one, add-one, one-add, arith, pow_mono}
 use native.Mathlib.Nat.{div-eq_of_lt, mul-mod_left}
-use lib.Bits.{bit_and, bit_or}
-use Rattle.std.proofs.lemmas.Nat.{pow_below, pow-add, shl-shr, shr-shr, and_mask, or_shr, or_mod, mod_below, shr_below}
+use lib.Bits.{bit_or}
+use Rattle.std.proofs.lemmas.Nat.{pow_below, pow-add, shl-shr, shr-shr, or_shr, or_mod, mod_below, shr_below}
 use Rattle.std.proofs.lemmas.Bool.{cases_order, cases_eq}
-use Rattle.std.proofs.lemmas.Bool.Decides.{Decides-at, Decides-eqb}
 use Rattle.paths.specs.Positions.{Holds}
-
-pub read_bit : (m j : ℕ) → Decides (eqb (bit_and (m / 2 ^ j) 1) 1) (Holds m j)
-read_bit m j = Decides-at _ _ (ap (λ x. eqb x 1) (and_mask (m / 2 ^ j) 1)) (Decides-eqb (m / 2 ^ j % 2) 1)
 
 -- position i alone is in the set 2 ^ i
 power_same : (i : ℕ) → Holds (2 ^ i) i

@@ -1,5 +1,5 @@
 -- The steps read so far, and that no others can be.
-use Rattle.std.proofs.Common.{◌≡◌, ℕ, ◌<◌, ◌≤◌, true, List, [], ◌∷◌, ◌++◌, length, Ok, Err, Result, sym, refl, ap, ◌∙◌, subst, append_assoc, append-nil, arith}
+use Rattle.std.proofs.Common.{◌≡◌, ℕ, ◌<◌, ◌≤◌, true, List, [], ◌∷◌, ◌++◌, length, Ok, Err, Result, sym, ap, ◌∙◌, subst, append_assoc, append-nil, arith}
 use Rattle.std.proofs.lemmas.List.{length_push, length-take}
 use Rattle.text.specs.declared.list.ArrayList.{ArrayList}
 use Rattle.text.specs.Lists.{items, Pushes}
@@ -27,9 +27,6 @@ module _ (names : List (List ℕ)) (text : List ℕ) where
     pub held : Held read steps stored
     pub joins : (us : List Step) → Written names us rest → Written names (read ++ us) text
     pub only : (ss : List Step) → Written names ss text → (us : List Step) × (ss ≡ read ++ us) × Written names us rest
-
-  pub none_read : (steps : ArrayList Step 15) → items steps ≡ [] → Sofar text steps (Ok tt)
-  none_read steps e = record { read = []; held = e; joins = λ us h. h; only = λ ss h. (ss, refl, h) }
 
   -- one step more is held, or it is one too many
   held_more : (read : List Step) (steps : ArrayList Step 15) (stored : Result (Unit {0}) Step) (s : Step) (after : ArrayList Step 15) (now : Result (Unit {0}) Step) → Held read steps stored → Pushes 15 steps s after now → Held (read ++ s ∷ []) after now

@@ -30,9 +30,6 @@ kept_by old set new q (added e grown) = record {
 }
 
 module _ (steps : List Step) (from : ℕ) (old : List ℕ) where
-  pub row_none : (row : List ℕ) → Row steps from old 0 row old
-  row_none row = record { kept = λ p h. refl; moves = λ b h. absurd (omega arith); next = λ b h. absurd (omega arith); counts = refl; led = λ q h k. absurd (omega arith) }
-
   pub row_more : (a : ℕ) (row met : List ℕ) (x : ℕ) (new : List ℕ) (q : ℕ) → a < length row → Row steps from old a row met → Moved steps a from x → Numbered met x new q → Row steps from old (a + 1) (set row a q) new
   row_more a row met x new q room h moved numbered = record {
     kept = λ p k. num.kept p (omega (arith, grows)) ∙ h.kept p k;

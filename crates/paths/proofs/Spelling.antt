@@ -1,5 +1,5 @@
 -- The first step of a text, and that no other can be read.
-use Rattle.std.proofs.Common.{◌≡◌, ℕ, zero, suc, ◌<◌, Bool, true, false, cond, ◌≢◌, List, [], ◌∷◌, ◌++◌, length, take, drop, Some, None, Option, sym, refl, ap, ◌∙◌, subst, append_assoc, arith, length-append, take-append-drop}
+use Rattle.std.proofs.Common.{◌≡◌, ℕ, zero, suc, ◌<◌, Bool, true, false, cond, ◌≢◌, List, [], ◌∷◌, ◌++◌, length, take, drop, Some, None, Option, sym, refl, ap, ◌∙◌, subst, append_assoc, arith, take-append-drop}
 use Rattle.std.specs.List.{AllByRecursion}
 use Rattle.std.specs.Str.{bytes_eq}
 use Rattle.std.proofs.ByRecursion.{All-from_get_or}
@@ -160,14 +160,6 @@ module _ (names : List (List ℕ)) (rule : all_names names ≡ true) where
             let same = agree s ss h in
             let test : s.test ≡ t = cc (same.stands, stands) in
             (ss, (λ i. record { descend = sym same.descend i; test = test i } ∷ ss), same.written)
-
-  -- a step takes up at least its slash
-  pub first_shorter : (text : List ℕ) (s : Step) (rest : List ℕ) → First names text s rest → length rest < length text
-  first_shorter text s rest f = slashed s.descend (f.whole ∙ ap (λ x. x ++ rest) f.spells.whole)
-    where
-      slashed : (d : Bool) → text ≡ (slashes d ++ f.spells.word) ++ rest → length rest < length text
-      slashed true e = omega (arith, simp length-append at (ap length e))
-      slashed false e = omega (arith, simp length-append at (ap length e))
 
   pub unopened_unread : (text : List ℕ) → Unopened text → 0 < length text → Unread names text
   unopened_unread [] h k ss w = omega arith

@@ -1,5 +1,5 @@
 -- Step by step, and then all steps, or the first refusal that fits.
-use Rattle.std.proofs.Common.{◌≡◌, ℕ, ◌<◌, ◌≤◌, false, eqb, List, length, sym, ◌∙◌, ⊎_elim, arith}
+use Rattle.std.proofs.Common.{◌≡◌, ℕ, ◌<◌, ◌≤◌, true, false, eqb, List, [], length, sym, ◌∙◌, ⊎_elim, arith}
 use Rattle.std.proofs.lemmas.List.{nil_from_length}
 use Rattle.std.proofs.lemmas.Bool.{eqb-true, eqb-false}
 use Rattle.std.proofs.lemmas.Option.{MatchOption-at_some, MatchOption-at_none}
@@ -10,14 +10,14 @@ use Rattle.text.specs.Lists.{items}
 use Rattle.text.proofs.Naming.{stored_rule}
 use Rattle.paths.specs.FirstSteps.{First}
 use Rattle.paths.specs.Texts.{Sized, Unread, bad_length}
-use Rattle.paths.proofs.Reading.{none_read, one_read, not_read, many_read, all_read}
+use Rattle.paths.proofs.Reading.{one_read, not_read, many_read, all_read}
 use Rattle.paths.proofs.path.Path.read.Goals as goal
 
 sized_by : (text : List ℕ) → false ≡ eqb (length text) 0 → length text ≤ 200 → Sized text
 sized_by text e h = let some = eqb-false _ 0 (sym e) in (omega (arith, some), h)
 
-pub loop-stored-init : goal.loop-stored-init
-loop-stored-init c = none_read (names_of c.args.labels.now) c.args.text.now _ c.empty-steps.ensures
+ended : (rest : List ℕ) → true ≡ eqb (length rest) 0 → rest ≡ []
+ended rest e = nil_from_length rest (eqb-true _ 0 (sym e))
 
 pub loop-stored-preserved : goal.loop-stored-preserved
 loop-stored-preserved c =
@@ -44,18 +44,15 @@ returns-in_err-step c =
 
 pub returns-in_err-or : goal.returns-in_err-or
 returns-in_err-or c =
-    let end = nil_from_length c.loop-stored.rest.now (eqb-true _ 0 (sym c.loop-stored-test.ensures)) in
     let p = err_from_is_err_and c.from_residual-in_err-or.result c.from_residual-in_err-or.ensures.1 in
-    rw (p.1, p.2) (many_read (names_of c.args.labels.now) _ _ _ end (sized_by c.args.text.now c.if-is_empty.ensures c.if-text-gt-MAX_TEXT.false) _ _ c.loop-stored.invariant c.in_err-or.ensures)
+    rw (p.1, p.2) (many_read (names_of c.args.labels.now) _ _ _ (ended _ c.loop-stored-test.ensures) (sized_by c.args.text.now c.if-is_empty.ensures c.if-text-gt-MAX_TEXT.false) _ _ c.loop-stored.invariant c.in_err-or.ensures)
 
 pub invariant_of-result : goal.invariant_of-result
 invariant_of-result c =
     let labels = c.args.labels.now in
-    let end = nil_from_length c.loop-stored.rest.now (eqb-true _ 0 (sym c.loop-stored-test.ensures)) in
-    record { some = (all_read (names_of labels) _ _ _ end (sized_by c.args.text.now c.if-is_empty.ensures c.if-text-gt-MAX_TEXT.false) _ _ (stored_rule (items labels.names)) c.loop-stored.invariant c.in_ok-or.ensures).0 }
+    record { some = (all_read (names_of labels) _ _ _ (ended _ c.loop-stored-test.ensures) (sized_by c.args.text.now c.if-is_empty.ensures c.if-text-gt-MAX_TEXT.false) _ _ (stored_rule (items labels.names)) c.loop-stored.invariant c.in_ok-or.ensures).0 }
 
 pub returns : goal.returns
 returns c =
     let labels = c.args.labels.now in
-    let end = nil_from_length c.loop-stored.rest.now (eqb-true _ 0 (sym c.loop-stored-test.ensures)) in
-    (all_read (names_of labels) _ _ _ end (sized_by c.args.text.now c.if-is_empty.ensures c.if-text-gt-MAX_TEXT.false) _ _ (stored_rule (items labels.names)) c.loop-stored.invariant c.in_ok-or.ensures).1
+    (all_read (names_of labels) _ _ _ (ended _ c.loop-stored-test.ensures) (sized_by c.args.text.now c.if-is_empty.ensures c.if-text-gt-MAX_TEXT.false) _ _ (stored_rule (items labels.names)) c.loop-stored.invariant c.in_ok-or.ensures).1

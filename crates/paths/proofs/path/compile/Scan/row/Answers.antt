@@ -1,15 +1,11 @@
 -- One target more, and then the row, or one set too many.
-use Rattle.std.proofs.Common.{◌≡◌, refl, ap, ◌∙◌, arith, length-set}
-use Rattle.std.proofs.lemmas.List.{length-take-le, get_or_append_left}
-use Rattle.text.proofs.Naming.{few_names}
+use Rattle.std.proofs.Common.{◌≡◌, ap, ◌∙◌, arith, length-set}
+use Rattle.std.proofs.lemmas.List.{get_or_append_left}
 use Rattle.paths.specs.Scans.{steps_in, labels_in, sets_in}
 use Rattle.paths.specs.Sets.{sets_of}
 use Rattle.paths.specs.Texts.{steps_of}
-use Rattle.paths.proofs.Rows.{row_none, row_more, row_as, stuck_at, led_by, says_by}
+use Rattle.paths.proofs.Rows.{row_more, row_as, stuck_at, led_by, says_by}
 use Rattle.paths.proofs.path.compile.Scan.row.Goals as goal
-
-pub loop-label-init : goal.loop-label-init
-loop-label-init c = record { long = length-take-le c.count-n.result _ (omega (arith, few_names c.args.self.now.labels.now.names)) ∙ c.count-n.ensures; kept = record { path = refl; labels = refl }; row = row_none _ _ _ _ }
 
 pub returns-in_err-target-clause-row : goal.returns-in_err-target-clause-row
 returns-in_err-target-clause-row c =

@@ -1,6 +1,6 @@
 -- One row more, and then all, or one set too many.
-use Rattle.std.proofs.Common.{refl, ◌∙◌, arith, length-set}
-use Rattle.paths.specs.Scans.{steps_in, labels_in}
+use Rattle.std.proofs.Common.{◌≡◌, length, refl, ◌∙◌, subst, arith, length-set}
+use Rattle.paths.specs.Scans.{steps_in, labels_in, sets_in, Scanned}
 use Rattle.paths.proofs.Scanning.{sets_fit, scan_none, scan_more, scan_stuck}
 use Rattle.paths.proofs.path.compile.Scan.rows.Goals as goal
 
@@ -24,3 +24,9 @@ loop-state-preserved c =
       kept = record { path = c.in_ok-rows.ensures.kept.path ∙ kept.path; labels = c.in_ok-rows.ensures.kept.labels ∙ kept.labels };
       scanned = scan_more (steps_in self) (labels_in self) _ _ _ _ _ (omega (arith, sets_fit c.loop-state.self.sets)) (omega arith) c.loop-state.invariant.scanned row.0 row.1;
     }
+
+pub returns-clause-rows : goal.returns-clause-rows
+returns-clause-rows c =
+    let self = c.args.self.now in
+    let all : c.loop-state.state ≡ length (sets_in c.loop-state.self) = omega (arith, c.loop-state.invariant.scanned.below) in
+    subst (λ p. Scanned (steps_in self) (labels_in self) c.loop-state.rows p (sets_in c.loop-state.self)) all c.loop-state.invariant.scanned
