@@ -75,6 +75,7 @@ fn push_names(names: &[u8]) -> Result<Labels, Refusal>
     requires { (all_names (listed (split 9 names.now)) ≡ true) × (length (listed (split 9 names.now)) ≤ 16) }
     ensures { MatchResult result (λ l. names_of l ≡ listed (split 9 names.now)) (λ why. (why ≡ NameTwice) × (twice (listed (split 9 names.now)) ≡ true)) }
 {
+    // `split` gives one field at least.
     let mut fields = names.split(is_tab);
     let first = fields.next().ok_or(Refusal::NameCount)?;
     let mut labels = Labels::new(first)?;
