@@ -1,29 +1,26 @@
--- A set that grows by the numbers with a property, as they are passed.
-use Rattle.std.proofs.Common.{◌≡◌, ℕ, ◌+◌, ◌<◌, ◌⊎◌, ◌↔◌, sym, subst, inl, inr, ⊎_elim, arith}
+-- A set that grows by the numbers that pass a test, as they are passed.
+use Rattle.std.proofs.Common.{◌≡◌, ℕ, ◌+◌, ◌<◌, Bool, true, false, ◌⊎◌, ◌↔◌, sym, subst, inl, inr, ⊎_elim, arith}
 use native.Mathlib.Decide.{ℕ_discrete}
-use Rattle.grading.specs.StateSets.{In, empty, Gathers}
+use Rattle.grading.specs.StateSets.{In, empty, Sifts}
 use Rattle.grading.specs.declared.states.StateSet.{StateSet}
 use Rattle.grading.proofs.Digits.{empty_none}
 
-module _ (P : ℕ → Type 0) where
-  pub gathers_none : (s : StateSet) → s ≡ empty → Gathers P 0 s
-  gathers_none s e i = (λ h. absurd (empty_none i (subst (In i) e h)), λ (l, _). absurd (omega arith))
+module _ (answers : ℕ → Bool → Type 0) where
+  pub sifts_none : (s : StateSet) → s ≡ empty → Sifts answers 0 s
+  sifts_none s e = record { has = λ i h. absurd (empty_none i (subst (In i) e h)); lacks = λ i l. absurd (omega arith) }
 
-  pub gathers_with : (n : ℕ) (s t : StateSet) → P n → ((i : ℕ) → In i t ↔ (In i s ⊎ (i ≡ n))) → Gathers P n s → Gathers P (n + 1) t
-  gathers_with n s t p more h i = (
-    λ k. ⊎_elim (λ j. let b = (h i).0 j in (omega (arith, b.0), b.1)) (λ e. (omega arith, subst P (sym e) p)) ((more i).0 k),
-    λ (l, k). (more i).1 (cases l k (ℕ_discrete i n)),
-  )
+  pub sifts_with : (n : ℕ) (s t : StateSet) → answers n true → ((i : ℕ) → In i t ↔ (In i s ⊎ (i ≡ n))) → Sifts answers n s → Sifts answers (n + 1) t
+  sifts_with n s t passes more h = record {
+    has = λ i k. ⊎_elim (λ j. let b = h.has i j in (omega (arith, b.0), b.1)) (λ e. (omega arith, subst (λ i. answers i true) (sym e) passes)) ((more i).0 k);
+    lacks = λ i l none. h.lacks i (let ne : ¬ (i ≡ n) = λ e. none ((more i).1 (inr e)) in omega arith) (λ j. none ((more i).1 (inl j)));
+  }
+
+  pub sifts_skip : (n : ℕ) (s : StateSet) → answers n false → Sifts answers n s → Sifts answers (n + 1) s
+  sifts_skip n s fails h = record {
+    has = λ i k. let b = h.has i k in (omega (arith, b.0), b.1);
+    lacks = λ i l none. cases i l none (ℕ_discrete i n);
+  }
     where
-      cases : i < n + 1 → P i → Dec (i ≡ n) → In i s ⊎ (i ≡ n)
-      cases l k (yes e) = inr e
-      cases l k (no ne) = inl ((h i).1 (omega arith, k))
-
-  pub gathers_skip : (n : ℕ) (s : StateSet) → ¬ P n → Gathers P n s → Gathers P (n + 1) s
-  gathers_skip n s none h i = (
-    λ k. let b = (h i).0 k in (omega (arith, b.0), b.1),
-    λ (l, k). (h i).1 (let ne : ¬ (i ≡ n) = λ e. none (subst P e k) in omega arith, k),
-  )
-
-  pub gathers_at : (m n : ℕ) (s : StateSet) → m ≡ n → Gathers P m s → Gathers P n s
-  gathers_at m n s e = subst (λ k. Gathers P k s) e
+      cases : (i : ℕ) → i < n + 1 → ¬ In i s → Dec (i ≡ n) → answers i false
+      cases i l none (yes e) = subst (λ i. answers i false) (sym e) fails
+      cases i l none (no ne) = h.lacks i (omega arith) none

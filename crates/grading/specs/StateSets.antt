@@ -30,6 +30,11 @@ Tells r P Q = (r ≡ true → P) × (r ≡ false → Q)
 abbrev pub Gathers : (ℕ → Type 0) → ℕ → StateSet → Type 0
 Gathers P n s = (i : ℕ) → In i s ↔ ((i < n) × P i)
 
+-- the set has just those of the numbers below n at which the test answers true
+pub record Sifts (answers : ℕ → Bool → Type 0) (n : ℕ) (s : StateSet) : Type 0 where
+  pub has : (i : ℕ) → In i s → (i < n) × answers i true
+  pub lacks : (i : ℕ) → i < n → ¬ In i s → answers i false
+
 -- x is the lowest state of s, and t has all the others
 pub record Taken (s t : StateSet) (x : ℕ) : Type 0 where
   pub below : x < 32

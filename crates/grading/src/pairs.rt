@@ -33,13 +33,7 @@ impl Pairs {
         requires { second < 32 }
         ensures { Gathers (λ p. Has self.now p second) 32 result }
     {
-        let mut firsts = StateSet::none();
-        for first in 0..32u8 {
-            if self.has(first, second) {
-                firsts = firsts.with(first);
-            }
-        }
-        firsts
+        StateSet::gather(32, |first| self.has(first, second))
     }
 
     pub fn has(&self, first: u8, second: u8) -> bool

@@ -53,12 +53,6 @@ impl Facts {
         requires { (Known (automaton table.now) self.now) × (state < (automaton table.now).states) }
         ensures { Gathers (Apart (automaton table.now) state) (automaton table.now).states result }
     {
-        let mut set = StateSet::none();
-        for other in 0..table.states() {
-            if !self.almost(table, state, other) {
-                set = set.with(other);
-            }
-        }
-        set
+        StateSet::gather(table.states(), |other| !self.almost(table, state, other))
     }
 }

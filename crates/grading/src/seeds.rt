@@ -31,13 +31,7 @@ impl Unlike {
 fn answering(table: &Table, answer: bool) -> StateSet
     ensures { Answering (automaton table.now) answer result }
 {
-    let mut set = StateSet::none();
-    for state in 0..table.states() {
-        if says_yes(table, state) == answer {
-            set = set.with(state);
-        }
-    }
-    set
+    StateSet::gather(table.states(), |state| says_yes(table, state) == answer)
 }
 
 impl Seeds for Unlike {

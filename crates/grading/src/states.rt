@@ -1,6 +1,6 @@
 //! Sets of states.
-ghost use Rattle.std.specs.Prelude.{◌≡◌, ℕ, ◌<◌, ◌⊎◌, ◌↔◌, Decides};
-ghost use Rattle.grading.specs.StateSets.{In, empty, None, Any, Tells, Takes};
+ghost use Rattle.std.specs.Prelude.{◌≡◌, ℕ, ◌<◌, ◌≤◌, ◌⊎◌, ◌↔◌, Decides};
+ghost use Rattle.grading.specs.StateSets.{In, empty, None, Any, Tells, Sifts, Takes};
 
 /// Some of the states below 32: a bit for each.
 #[derive(Clone, Copy)]
@@ -20,6 +20,21 @@ impl StateSet {
         ensures { (i : ℕ) → In i result ↔ (i ≡ state) }
     {
         StateSet::none().with(state)
+    }
+
+    /// The states below the count that pass the test.
+    pub fn gather<F: Fn(u8) -> bool>(count: u8, test: F) -> StateSet
+        requires within { count ≤ 32 }
+        requires callable { (state : ℕ) → state < count → F.pre test state }
+        ensures { Sifts (F.post test) count result }
+    {
+        let mut set = StateSet::none();
+        for state in 0..count {
+            if test(state) {
+                set = set.with(state);
+            }
+        }
+        set
     }
 
     pub fn has(self, state: u8) -> bool
