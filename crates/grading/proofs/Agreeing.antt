@@ -1,5 +1,5 @@
 -- The pairs that are found are those of the relations.
-use Rattle.std.proofs.Common.{◌≡◌, ℕ, ◌<◌, Bool, true, false, ◌⊎◌, sym, refl, ◌∙◌, subst, inl, inr, true≢false}
+use Rattle.std.proofs.Common.{◌≡◌, ℕ, ◌<◌, Bool, true, false, ◌⊎◌, List, sym, refl, ◌∙◌, subst, inl, inr, true≢false}
 use Rattle.automata.specs.Automata.{Automaton, WellFormed}
 use Rattle.automata.specs.States.{Differ, Meet, Reaches, MeetInside}
 use Rattle.base.specs.Tables.{automaton}
@@ -11,7 +11,6 @@ use Rattle.grading.specs.Spreading.{Spreads}
 use Rattle.grading.specs.StateSets.{In}
 use Rattle.grading.specs.Worklists.{Below}
 use Rattle.grading.specs.declared.pairs.Pairs.{Pairs}
-use Rattle.grading.specs.declared.predecessors.Predecessors.{Predecessors}
 use Rattle.grading.specs.declared.states.StateSet.{StateSet}
 use Rattle.grading.proofs.Worded.{comes_more, comes_within, Both, First, Inside, Unlike, Equal, differ_from_comes, meet_from_comes, reaches_from_comes, inside_from_comes, comes_from_differ, comes_from_meet, comes_from_reaches, comes_from_inside}
 
@@ -46,7 +45,7 @@ equal_from A p q (h, e) = (h, sym e)
 equal_to : (A : Automaton) (p q : ℕ) → Equal A p q → (p < A.states) × (q ≡ p)
 equal_to A p q (h, e) = (h, sym e)
 
-module _ (A : Automaton) (f : WellFormed A) (b : Predecessors) (index : Indexes A b) (m : Pairs) where
+module _ (A : Automaton) (f : WellFormed A) (b : List Pairs) (index : Indexes A b) (m : Pairs) where
   abbrev BothIn : ℕ → ℕ → ℕ → ℕ → ℕ → Type 0
   BothIn a p q x y = In p (before b a x) × In q (before b a y)
 

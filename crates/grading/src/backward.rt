@@ -6,7 +6,6 @@ ghost use Rattle.automata.specs.Noting.{Before as BeforeInside};
 ghost use Rattle.automata.specs.States.{Apart};
 ghost use Rattle.base.specs.Tables.{automaton};
 ghost use Rattle.grading.specs.Backward.{back, Homeward, Filled, Retraces};
-ghost use Rattle.grading.specs.Knowing.{Known};
 ghost use Rattle.grading.specs.StateSets.{Gathers};
 
 use crate::facts::Facts;
@@ -43,42 +42,40 @@ fn lowest_before(table: &Table, home: StateSet, apart: StateSet, label: u8, stat
     state
 }
 
-impl Facts {
+impl Facts<'_> {
     // Where to go back to inside `home` from the state, for each label.
-    fn back_from(&self, table: &Table, home: StateSet, state: u8) -> [u8; 16]
-        requires { (Known (automaton table.now) self.now) × (state < (automaton table.now).states) }
-        ensures { Filled (automaton table.now) home state (automaton table.now).labels result }
+    fn back_from(&self, home: StateSet, state: u8) -> [u8; 16]
+        requires { state < (automaton self.now.table.now).states }
+        ensures { let A = automaton self.now.table.now in Filled A home state A.labels result }
     {
-        let apart = self.apart(table, state);
+        let apart = self.apart(state);
         let mut targets = [0; 16];
-        for label in 0..table.labels() {
-            targets[label as usize] = lowest_before(table, home, apart, label, state);
+        for label in 0..self.table.labels() {
+            targets[label as usize] = lowest_before(self.table, home, apart, label, state);
         }
         targets
     }
 
     /// Where to go back to among the internal states.
-    pub(crate) fn back_to_internal(&self, table: &Table) -> Backward
-        requires { Known (automaton table.now) self.now }
-        ensures { Retraces (automaton table.now) (BeforeInternal (automaton table.now)) result }
+    pub(crate) fn back_to_internal(&self) -> Backward
+        ensures { let A = automaton self.now.table.now in Retraces A (BeforeInternal A) result }
     {
-        let internal = self.internal(table);
+        let internal = self.internal();
         let mut targets = [[0; 16]; 32];
-        for state in 0..table.states() {
-            targets[state as usize] = self.back_from(table, internal, state);
+        for state in 0..self.table.states() {
+            targets[state as usize] = self.back_from(internal, state);
         }
         Backward { targets }
     }
 
     /// Where to go back to inside the component of each state.
-    pub(crate) fn back_inside(&self, table: &Table) -> Backward
-        requires { Known (automaton table.now) self.now }
-        ensures { Retraces (automaton table.now) (BeforeInside (automaton table.now)) result }
+    pub(crate) fn back_inside(&self) -> Backward
+        ensures { let A = automaton self.now.table.now in Retraces A (BeforeInside A) result }
     {
         let mut targets = [[0; 16]; 32];
-        for state in 0..table.states() {
-            let component = self.component(table, state);
-            targets[state as usize] = self.back_from(table, component, state);
+        for state in 0..self.table.states() {
+            let component = self.component(state);
+            targets[state as usize] = self.back_from(component, state);
         }
         Backward { targets }
     }

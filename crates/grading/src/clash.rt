@@ -29,7 +29,7 @@ pub struct Clash {
 pub fn clash_of(table: &Table) -> Option<Clash>
     ensures { MatchOption result (Registerless (automaton table.now)) (Shows (automaton table.now)) }
 {
-    let pair = Facts::of(table).lowest_clash(table)?;
+    let pair = Facts::of(table).lowest_clash()?;
     Some(Clash {
         first: word_to(table, pair.first),
         second: word_to(table, pair.second),

@@ -2,35 +2,33 @@
 ghost use Rattle.std.specs.Prelude.{◌<◌, MatchOption};
 ghost use Rattle.automata.specs.Grades.{Registerless, Clashing, LowestClash, Stackless, Knot};
 ghost use Rattle.base.specs.Tables.{automaton};
-ghost use Rattle.grading.specs.Knowing.{Known, Plain};
+ghost use Rattle.grading.specs.Knowing.{Plain};
 ghost use Rattle.grading.specs.StateSets.{Gathers, Tells};
 
 use crate::facts::Facts;
 use crate::products::Pair;
 use crate::states::StateSet;
-use base::table::Table;
 
-impl Facts {
+impl Facts<'_> {
     // The states that the state clashes with.
-    fn clashing(&self, table: &Table, state: u8) -> StateSet
-        requires { (Known (automaton table.now) self.now) × (state < (automaton table.now).states) }
-        ensures { Gathers (Clashing (automaton table.now) state) (automaton table.now).states result }
+    fn clashing(&self, state: u8) -> StateSet
+        requires { state < (automaton self.now.table.now).states }
+        ensures { let A = automaton self.now.table.now in Gathers (Clashing A state) A.states result }
     {
-        let internal = self.internal(table);
+        let internal = self.internal();
         if !internal.has(state) {
             return StateSet::none();
         }
         let met = internal.intersection(self.meet.row(state));
-        met.intersection(self.apart(table, state))
+        met.intersection(self.apart(state))
     }
 
     /// The lowest pair of states that clash.
-    pub fn lowest_clash(&self, table: &Table) -> Option<Pair>
-        requires { Known (automaton table.now) self.now }
-        ensures { MatchOption result (Registerless (automaton table.now)) (λ pair. LowestClash (automaton table.now) pair.first pair.second) }
+    pub fn lowest_clash(&self) -> Option<Pair>
+        ensures { let A = automaton self.now.table.now in MatchOption result (Registerless A) (λ pair. LowestClash A pair.first pair.second) }
     {
-        for first in 0..table.states() {
-            let mut others = self.clashing(table, first);
+        for first in 0..self.table.states() {
+            let mut others = self.clashing(first);
             if let Some(second) = others.take_lowest() {
                 return Some(Pair { first, second });
             }
@@ -39,22 +37,21 @@ impl Facts {
     }
 
     // Whether the state makes a knot with another.
-    fn knots(&self, table: &Table, state: u8) -> bool
-        requires { (Known (automaton table.now) self.now) × (state < (automaton table.now).states) }
-        ensures { Tells result (Knot (automaton table.now)) (Plain (automaton table.now) state) }
+    fn knots(&self, state: u8) -> bool
+        requires { state < (automaton self.now.table.now).states }
+        ensures { let A = automaton self.now.table.now in Tells result (Knot A) (Plain A state) }
     {
-        let component = self.component(table, state);
+        let component = self.component(state);
         let met = component.intersection(self.inside.row(state));
-        !met.intersection(self.apart(table, state)).is_empty()
+        !met.intersection(self.apart(state)).is_empty()
     }
 
     /// Whether no component has a knot.
-    pub fn stackless(&self, table: &Table) -> bool
-        requires { Known (automaton table.now) self.now }
-        ensures { Tells result (Stackless (automaton table.now)) (Knot (automaton table.now)) }
+    pub fn stackless(&self) -> bool
+        ensures { let A = automaton self.now.table.now in Tells result (Stackless A) (Knot A) }
     {
-        for state in 0..table.states() {
-            if self.knots(table, state) {
+        for state in 0..self.table.states() {
+            if self.knots(state) {
                 return false;
             }
         }

@@ -3,7 +3,6 @@ ghost use Rattle.std.specs.Prelude.{◌≡◌, ℕ, ◌<◌};
 ghost use Rattle.automata.specs.States.{Differ};
 ghost use Rattle.base.specs.Tables.{automaton};
 ghost use Rattle.grading.specs.Knowing.{Agrees, Known};
-ghost use Rattle.grading.specs.Preceding.{Indexes};
 
 use crate::moves::{Both, First, Inside};
 use crate::pairs::Pairs;
@@ -12,26 +11,29 @@ use crate::seeds::{Same, Unlike};
 use crate::spread::spread;
 use base::table::Table;
 
-/// The pairs of states that differ, that meet, of which the first reaches the second, and that meet in the component of the first.
+/// The pairs of a table's states that differ, that meet, of which the first reaches the second, and that meet in the component
+/// of the first.
 #[derive(Clone, Copy)]
-pub struct Facts {
+pub struct Facts<'a> {
+    pub table: &'a Table,
     pub differ: Pairs,
     pub meet: Pairs,
     pub reach: Pairs,
     pub inside: Pairs,
+    // A ghost field must be a proposition, so what holds by several words is truncated.
+    ghost known: { ∥ Known (automaton table.now) differ meet reach inside ∥₁ },
 }
 
 /// The pairs of states that some word tells apart.
-pub fn differing(table: &Table, before: &Predecessors) -> Pairs
-    requires { Indexes (automaton table.now) before.now }
-    ensures { Agrees (automaton table.now).states (Differ (automaton table.now)) result }
+pub fn differing(before: &Predecessors) -> Pairs
+    ensures { Agrees (automaton before.now.table.now).states (Differ (automaton before.now.table.now)) result }
 {
-    spread(table, &Both { before }, &Unlike::of(table))
+    spread(before.table, &Both { before }, &Unlike::of(before.table))
 }
 
-impl Facts {
-    pub fn of(table: &Table) -> Facts
-        ensures { Known (automaton table.now) result }
+impl<'a> Facts<'a> {
+    pub fn of(table: &'a Table) -> Facts<'a>
+        ensures { result.table.now ≡ table.now }
     {
         let before = &Predecessors::of(table);
         let reach = spread(table, &First { before }, &Same);
@@ -41,7 +43,8 @@ impl Facts {
             reach: reached,
         };
         Facts {
-            differ: differing(table, before),
+            table,
+            differ: differing(before),
             meet: spread(table, &Both { before }, &Same),
             reach,
             inside: spread(table, &inside, &Same),

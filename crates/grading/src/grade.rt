@@ -3,7 +3,6 @@ ghost use Rattle.automata.specs.Components.{Components};
 ghost use Rattle.automata.specs.Minimising.{Minimised};
 ghost use Rattle.base.specs.Tables.{automaton};
 ghost use Rattle.grading.specs.Grading.{Earns, Settles};
-ghost use Rattle.grading.specs.Knowing.{Known};
 
 use crate::facts::Facts;
 use crate::minimise::minimise;
@@ -38,21 +37,20 @@ impl Graded {
         let facts = Facts::of(&minimal);
         Graded {
             table: minimal,
-            grade: grade_by(&minimal, &facts),
-            components: facts.components(&minimal),
+            grade: grade_by(&facts),
+            components: facts.components(),
         }
     }
 }
 
 // The grade of a minimal table, by its facts.
-fn grade_by(table: &Table, facts: &Facts) -> Grade
-    requires { Known (automaton table.now) facts.now }
-    ensures { Earns (automaton table.now) result }
+fn grade_by(facts: &Facts) -> Grade
+    ensures { Earns (automaton facts.now.table.now) result }
 {
-    if facts.lowest_clash(table).is_none() {
+    if facts.lowest_clash().is_none() {
         return Grade::Registerless;
     }
-    if facts.stackless(table) {
+    if facts.stackless() {
         return Grade::Stackless;
     }
     Grade::Neither

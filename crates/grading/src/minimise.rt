@@ -14,7 +14,7 @@ pub fn minimise(table: &Table) -> Table
     ensures only { OnlyMinimised (automaton table.now) (automaton result) }
 {
     let before = Predecessors::of(table);
-    let differ = differing(table, &before);
+    let differ = differing(&before);
     let mut draft = Draft {
         count: 1,
         old: [table.start(); 32],

@@ -12,11 +12,11 @@ use crate::states::StateSet;
 /// Both states take the label.
 #[derive(Drop)]
 pub struct Both<'a> {
-    pub before: &'a Predecessors,
+    pub before: &'a Predecessors<'a>,
 }
 
 impl Moves for Both<'_> {
-    ghost goes = { λ m a p q x y. In p (before m.before.now a x) × In q (before m.before.now a y) };
+    ghost goes = { λ m a p q x y. In p (before m.before.now.entering a x) × In q (before m.before.now.entering a y) };
 
     fn before(&self, label: u8, pair: Pair) -> Product {
         Product {
@@ -29,11 +29,11 @@ impl Moves for Both<'_> {
 /// The first state takes the label, and the second stays.
 #[derive(Drop)]
 pub struct First<'a> {
-    pub before: &'a Predecessors,
+    pub before: &'a Predecessors<'a>,
 }
 
 impl Moves for First<'_> {
-    ghost goes = { λ m a p q x y. In p (before m.before.now a x) × (q ≡ y) };
+    ghost goes = { λ m a p q x y. In p (before m.before.now.entering a x) × (q ≡ y) };
 
     fn before(&self, label: u8, pair: Pair) -> Product {
         Product {
@@ -46,12 +46,12 @@ impl Moves for First<'_> {
 /// Both states take the label, and the first is reached back.
 #[derive(Drop)]
 pub struct Inside<'a> {
-    pub before: &'a Predecessors,
+    pub before: &'a Predecessors<'a>,
     pub reach: &'a Pairs,
 }
 
 impl Moves for Inside<'_> {
-    ghost goes = { λ m a p q x y. (In p (before m.before.now a x) × Has m.reach.now x p) × In q (before m.before.now a y) };
+    ghost goes = { λ m a p q x y. (In p (before m.before.now.entering a x) × Has m.reach.now x p) × In q (before m.before.now.entering a y) };
 
     fn before(&self, label: u8, pair: Pair) -> Product {
         let reached = self.reach.row(pair.first);

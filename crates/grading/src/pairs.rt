@@ -8,7 +8,7 @@ use crate::states::StateSet;
 /// For each first state the set of its second ones.
 #[derive(Clone, Copy)]
 pub struct Pairs {
-    rows: [StateSet; 32],
+    pub rows: [StateSet; 32],
 }
 
 impl Pairs {

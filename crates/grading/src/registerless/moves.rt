@@ -21,12 +21,12 @@ impl RegisterlessSelector {
     {
         let minimal = minimise(table);
         let facts = Facts::of(&minimal);
-        if facts.lowest_clash(&minimal).is_some() {
+        if facts.lowest_clash().is_some() {
             return Err(Refusal::NotRegisterless);
         }
         Ok(RegisterlessSelector {
             table: minimal,
-            backward: facts.back_to_internal(&minimal),
+            backward: facts.back_to_internal(),
             state: minimal.start(),
         })
     }

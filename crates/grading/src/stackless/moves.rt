@@ -27,14 +27,14 @@ impl StacklessSelector {
     {
         let minimal = minimise(table);
         let facts = Facts::of(&minimal);
-        if !facts.stackless(&minimal) {
+        if !facts.stackless() {
             return Err(Refusal::NotStackless);
         }
         Ok(StacklessSelector {
             table: minimal,
-            backward: facts.back_inside(&minimal),
-            component: facts.component_numbers(&minimal),
-            needed: facts.components(&minimal) - 1,
+            backward: facts.back_inside(),
+            component: facts.component_numbers(),
+            needed: facts.components() - 1,
             state: minimal.start(),
             depth: 0,
             notes: Notes::none(),

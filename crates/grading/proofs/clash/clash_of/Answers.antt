@@ -1,4 +1,6 @@
 -- The words are for the lowest pair that clashes.
+use Rattle.std.proofs.Common.{subst}
+use Rattle.automata.specs.Grades.{LowestClash}
 use Rattle.automata.proofs.Words.{internal_below}
 use Rattle.base.specs.Tables.{automaton}
 use Rattle.grading.specs.Words.{labels_of}
@@ -11,7 +13,8 @@ shortest-requires c =
     let t = c.args.table.now in
     let A = automaton t in
     let x = c.in_ok-pair.pair in
-    let k = c.in_ok-pair.ensures.clashing in
+    let low = subst (λ t. LowestClash (automaton t) x.first x.second) c.of.ensures c.in_ok-pair.ensures in
+    let k = low.clashing in
     (record { inside = (internal_below A (well_formed t) k.p_internal, internal_below A (well_formed t) k.q_internal); brought = meet_brought A x.first x.second k.meet k.apart })
 
 pub shortest-requires-2 : goal.shortest-requires-2
@@ -19,7 +22,8 @@ shortest-requires-2 c =
     let t = c.args.table.now in
     let A = automaton t in
     let x = c.in_ok-pair.pair in
-    let k = c.in_ok-pair.ensures.clashing in
+    let low = subst (λ t. LowestClash (automaton t) x.first x.second) c.of.ensures c.in_ok-pair.ensures in
+    let k = low.clashing in
     let l = internal_below A (well_formed t) k.p_internal in
     let m = internal_below A (well_formed t) k.q_internal in
     (record { inside = (l, m); brought = apart_brought A x.first x.second (well_formed t) l m c.of-2.result.yes c.of-2.result.no c.of-2.ensures.0 c.of-2.ensures.1 k.apart })
@@ -29,7 +33,7 @@ returns c =
     let t = c.args.table.now in
     let A = automaton t in
     let x = c.in_ok-pair.pair in
-    let low = c.in_ok-pair.ensures in
+    let low = subst (λ t. LowestClash (automaton t) x.first x.second) c.of.ensures c.in_ok-pair.ensures in
     let l = internal_below A (well_formed t) low.clashing.p_internal in
     let m = internal_below A (well_formed t) low.clashing.q_internal in
     record {

@@ -5,5 +5,5 @@ use Rattle.grading.proofs.facts.differing.Goals as goal
 
 pub returns : goal.returns
 returns c =
-    let t = c.args.table.now in
-    differ_agrees (automaton t) (well_formed t) c.args.before.now c.requires c.spread.result c.of.result.yes c.of.result.no c.of.ensures.0 c.of.ensures.1 c.spread.ensures
+    let b = c.args.before.now in
+    differ_agrees (automaton b.table.now) (well_formed b.table.now) b.entering b.indexes c.spread.result c.of.result.yes c.of.result.no c.of.ensures.0 c.of.ensures.1 c.spread.ensures

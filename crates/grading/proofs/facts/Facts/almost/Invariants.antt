@@ -5,4 +5,4 @@ use Rattle.base.specs.Tables.{automaton}
 use Rattle.grading.proofs.facts.Facts.almost.Given as goal
 
 abbrev pub invariant-loop-label : goal.invariant-loop-label
-invariant-loop-label l = (a : ℕ) → a < l.label → ¬ Differ (automaton l.table) ((automaton l.table).step l.first a) ((automaton l.table).step l.second a)
+invariant-loop-label l = (a : ℕ) → a < l.label → ¬ Differ (automaton l.self.table.now) ((automaton l.self.table.now).step l.first a) ((automaton l.self.table.now).step l.second a)

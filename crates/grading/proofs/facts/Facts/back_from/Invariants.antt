@@ -5,4 +5,4 @@ use Rattle.grading.specs.Backward.{Filled}
 use Rattle.grading.proofs.facts.Facts.back_from.Given as goal
 
 abbrev pub invariant-loop-label : goal.invariant-loop-label
-invariant-loop-label l = Filled (automaton l.table) l.home l.state l.label l.targets × (length l.targets ≡ 16)
+invariant-loop-label l = Filled (automaton l.self.table.now) l.home l.state l.label l.targets × (length l.targets ≡ 16)

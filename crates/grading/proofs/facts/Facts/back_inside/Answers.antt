@@ -8,7 +8,7 @@ use Rattle.grading.proofs.facts.Facts.back_inside.Goals as goal
 
 pub loop-state-preserved : goal.loop-state-preserved
 loop-state-preserved c =
-    let t = c.args.table.now in
+    let t = c.args.self.now.table.now in
     let A = automaton t in
     let p = c.loop-state.state in
     let rows = c.loop-state.targets in
@@ -18,4 +18,4 @@ loop-state-preserved c =
     )
 
 pub returns : goal.returns
-returns c = let A = automaton c.args.table.now in retraced_all A (Before A) c.loop-state.state c.loop-state.targets (omega arith) c.loop-state.invariant.0
+returns c = let A = automaton c.args.self.now.table.now in retraced_all A (Before A) c.loop-state.state c.loop-state.targets (omega arith) c.loop-state.invariant.0

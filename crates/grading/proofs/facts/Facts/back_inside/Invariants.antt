@@ -6,4 +6,4 @@ use Rattle.grading.proofs.Retracing.{Retraced}
 use Rattle.grading.proofs.facts.Facts.back_inside.Given as goal
 
 abbrev pub invariant-loop-state : goal.invariant-loop-state
-invariant-loop-state l = Retraced (automaton l.table) (Before (automaton l.table)) l.state l.targets × (length l.targets ≡ 32)
+invariant-loop-state l = Retraced (automaton l.self.table.now) (Before (automaton l.self.table.now)) l.state l.targets × (length l.targets ≡ 32)

@@ -5,4 +5,4 @@ use Rattle.grading.specs.Numbered.{NumberedBelow}
 use Rattle.grading.proofs.facts.Facts.component_numbers.Given as goal
 
 abbrev pub invariant-loop-state : goal.invariant-loop-state
-invariant-loop-state l = NumberedBelow (automaton l.table) l.state l.numbers × (length l.numbers ≡ 32)
+invariant-loop-state l = NumberedBelow (automaton l.self.table.now) l.state l.numbers × (length l.numbers ≡ 32)

@@ -12,7 +12,7 @@ loop-state-init c = (none, omega arith)
 
 pub loop-state-preserved : goal.loop-state-preserved
 loop-state-preserved c =
-    let P : ℕ → Type 0 = Lowest (automaton c.args.table.now) in
+    let P : ℕ → Type 0 = Lowest (automaton c.args.self.now.table.now) in
     let n = c.loop-state.state in
     let k = c.loop-state.count in
     elim c.if-is_lowest.branch [
@@ -22,6 +22,6 @@ loop-state-preserved c =
 
 pub returns : goal.returns
 returns c =
-    let A = automaton c.args.table.now in
+    let A = automaton c.args.self.now.table.now in
     let all : c.loop-state.state ≡ A.states = omega arith in
     subst (λ n. Count (Lowest A) n c.loop-state.count) all c.loop-state.invariant.0

@@ -5,4 +5,4 @@ use Rattle.grading.proofs.Relating.{Entered}
 use Rattle.grading.proofs.facts.Facts.internal.Given as goal
 
 abbrev pub invariant-loop-label : goal.invariant-loop-label
-invariant-loop-label l = Gathers (Entered (automaton l.table) l.label) (automaton l.table).states l.set
+invariant-loop-label l = Gathers (Entered (automaton l.self.table.now) l.label) (automaton l.self.table.now).states l.set

@@ -4,4 +4,4 @@ use Rattle.grading.proofs.Counting.{lowest_decides}
 use Rattle.grading.proofs.facts.Facts.is_lowest.Goals as goal
 
 pub returns : goal.returns
-returns c = lowest_decides (automaton c.args.table.now) c.args.state c.component_number.result c.component_number.ensures
+returns c = lowest_decides (automaton c.args.self.now.table.now) c.args.state c.component_number.result c.component_number.ensures

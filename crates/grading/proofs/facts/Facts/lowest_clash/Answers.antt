@@ -8,16 +8,16 @@ use Rattle.grading.proofs.facts.Facts.lowest_clash.Goals as goal
 
 pub loop-first-preserved : goal.loop-first-preserved
 loop-first-preserved c =
-    let t = c.args.table.now in
+    let t = c.args.self.now.table.now in
     below_more (λ p. (q : ℕ) → ¬ Clashing (automaton t) p q) c.loop-first.first c.loop-first.invariant
     (no_clash (automaton t) (well_formed t) c.loop-first.first c.clashing-others.result c.clashing-others.ensures c.in_default.ensures.0)
 
 pub returns : goal.returns
 returns c =
-    let t = c.args.table.now in
+    let t = c.args.self.now.table.now in
     registerless_from (automaton t) (well_formed t) (λ p l. c.loop-first.invariant p (omega arith))
 
 pub returns-in-Some : goal.returns-in-Some
 returns-in-Some c =
-    let t = c.args.table.now in
+    let t = c.args.self.now.table.now in
     lowest_clash (automaton t) (well_formed t) c.loop-first.first c.clashing-others.result c.clashing-others.ensures c.take_lowest.new.self c.in-Some.second c.in-Some.ensures c.loop-first.invariant

@@ -1,16 +1,24 @@
 -- The pairs that are found are those of the four relations.
+use Rattle.std.proofs.Common.{subst}
+use Rattle.automata.specs.States.{Differ}
 use Rattle.base.specs.Tables.{automaton}
+use Rattle.grading.specs.Knowing.{Agrees}
+use Rattle.grading.specs.Preceding.{Indexes}
 use Rattle.grading.proofs.Agreeing.{well_formed, meet_agrees, reach_agrees, inside_agrees}
 use Rattle.grading.proofs.facts.Facts.of.Goals as goal
 
-pub returns : goal.returns
-returns c =
+pub invariant_of-result : goal.invariant_of-result
+invariant_of-result c =
     let t = c.args.table.now in
     let A = automaton t in
-    let reach = reach_agrees A (well_formed t) c.of.result c.of.ensures c.spread-reach.result c.spread-reach.ensures in
+    let before = c.of.result.entering in
+    let indexes = subst (λ t. Indexes (automaton t) before) c.of.ensures c.of.result.indexes in
+    let reach = reach_agrees A (well_formed t) before indexes c.spread-reach.result c.spread-reach.ensures in
     record {
-      differ = c.differing.ensures;
-      meet = meet_agrees A (well_formed t) c.of.result c.of.ensures c.spread.result c.spread.ensures;
-      reach = reach;
-      inside = inside_agrees A (well_formed t) c.of.result c.of.ensures c.spread-2.result c.spread-reach.result reach c.spread-2.ensures;
+      known = ∣ record {
+        differ = subst (λ t. Agrees (automaton t).states (Differ (automaton t)) c.differing.result) c.of.ensures c.differing.ensures;
+        meet = meet_agrees A (well_formed t) before indexes c.spread.result c.spread.ensures;
+        reach = reach;
+        inside = inside_agrees A (well_formed t) before indexes c.spread-2.result c.spread-reach.result reach c.spread-2.ensures;
+      } ∣₁;
     }

@@ -6,7 +6,7 @@ use Rattle.grading.specs.Knowing.{Plain}
 use Rattle.grading.proofs.facts.Facts.stackless.Goals as goal
 
 pub loop-state-preserved : goal.loop-state-preserved
-loop-state-preserved c = below_more (Plain (automaton c.args.table.now)) c.loop-state.state c.loop-state.invariant (c.knots.ensures.1 c.if-knots.false)
+loop-state-preserved c = below_more (Plain (automaton c.args.self.now.table.now)) c.loop-state.state c.loop-state.invariant (c.knots.ensures.1 c.if-knots.false)
 
 pub returns : goal.returns
 returns c = (λ _ p q h. c.loop-state.invariant p (omega arith) q, λ e. absurd (true≢false e))

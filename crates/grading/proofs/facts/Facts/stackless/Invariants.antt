@@ -5,4 +5,4 @@ use Rattle.grading.specs.Knowing.{Plain}
 use Rattle.grading.proofs.facts.Facts.stackless.Given as goal
 
 abbrev pub invariant-loop-state : goal.invariant-loop-state
-invariant-loop-state l = (p : ℕ) → p < l.state → Plain (automaton l.table) p
+invariant-loop-state l = (p : ℕ) → p < l.state → Plain (automaton l.self.table.now) p

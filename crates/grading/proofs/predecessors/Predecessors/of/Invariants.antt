@@ -5,4 +5,4 @@ use Rattle.grading.specs.Preceding.{Indexed}
 use Rattle.grading.proofs.predecessors.Predecessors.of.Given as goal
 
 abbrev pub invariant-loop-state : goal.invariant-loop-state
-invariant-loop-state l = Indexed (automaton l.table) l.all (16 * l.state)
+invariant-loop-state l = Indexed (automaton l.table) l.entering (16 * l.state)
