@@ -12,6 +12,7 @@ pub mod Visiting
 pub mod Halfway
 pub mod Worded
 pub mod Agreeing
+pub mod Ranges
 pub mod Searching
 pub mod Relating
 pub mod Denying

@@ -1,12 +1,16 @@
 -- From labels and sets to how states relate.
-use Rattle.std.proofs.Common.{◌≡◌, ℕ, ◌+◌, ◌<◌, ◌≤◌, ◌⊎◌, ◌↔◌, sym, ap, ◌∙◌, subst, inl, inr, ⊎_elim, arith}
-use mathlib.Core.Bool.{Bool-discrete}
+use Rattle.std.proofs.Common.{◌≡◌, ℕ, ◌+◌, ◌<◌, ◌≤◌, Bool, true, false, not, ◌⊎◌, ◌↔◌, true≢false, sym, ap, ◌∙◌, subst, inl, inr, ⊎_elim, arith}
+use Rattle.std.specs.Bool.{MatchBool}
+use mathlib.Core.Bool.{Bool-discrete, false≢true}
 use native.Mathlib.Decide.{ℕ_discrete, dec_lt}
 use Rattle.automata.specs.Automata.{Automaton, run, WellFormed}
-use Rattle.automata.specs.Grades.{Registerless, Clashing, LowestClash, Clash, Knot}
+use Rattle.automata.specs.Grades.{Registerless, Clashing, LowestClash, Clash, Stackless, Knot}
 use Rattle.automata.specs.States.{Internal, Differ, Equivalent, Reaches, Almost, Apart, Together, MeetInside}
 use Rattle.automata.proofs.Words.{internal_below}
-use Rattle.grading.specs.StateSets.{In, None, Any, empty, Gathers, Taken}
+use Rattle.grading.specs.Knowing.{Agrees, Plain}
+use Rattle.grading.specs.Pairing.{Has}
+use Rattle.grading.specs.StateSets.{In, None, Any, empty, Tells, Gathers, Taken}
+use Rattle.grading.specs.declared.pairs.Pairs.{Pairs}
 use Rattle.grading.specs.declared.states.StateSet.{StateSet}
 use Rattle.grading.proofs.Digits.{empty_none}
 
@@ -29,6 +33,16 @@ not_apart A p q h d = d.differ (h d.first d.rest d.word)
 
 pub almost_from_not_apart : (A : Automaton) (p q : ℕ) → ¬ Apart A p q → Almost A p q
 almost_from_not_apart A p q none = almost_from_labels A p q (λ a l d. none (apart_from_label A p q a l d))
+
+-- whether a label leads p and q to states that differ, read from the pairs that do
+pub almost_read : (A : Automaton) → WellFormed A → (m : Pairs) → Agrees A.states (Differ A) m → (p q n : ℕ) → n ≡ A.labels → p < A.states → q < A.states → (r : Bool) → MatchBool r ((a : ℕ) → a < n → ¬ Has m (A.step p a) (A.step q a)) ((a : ℕ) × (a < n) × Has m (A.step p a) (A.step q a)) → Tells r (Almost A p q) (Apart A p q)
+almost_read A f m differ p q n e l k true h = (λ _. almost_from_labels A p q (λ a i d. h a (omega arith) ((differ (A.step p a) (A.step q a)).1 (f.step p a l i, f.step q a k i, d))), λ e. absurd (true≢false e))
+almost_read A f m differ p q n e l k false (a, i, h) = (λ e. absurd (false≢true e), λ _. apart_from_label A p q a (omega arith) ((differ (A.step p a) (A.step q a)).0 h).2)
+
+-- whether a state makes a knot
+pub stackless_read : (A : Automaton) (n : ℕ) → n ≡ A.states → (r : Bool) → MatchBool r ((p : ℕ) × (p < n) × Knot A) ((p : ℕ) → p < n → Plain A p) → Tells (not r) (Stackless A) (Knot A)
+stackless_read A n e true (_, _, k) = (λ e. absurd (false≢true e), λ _. k)
+stackless_read A n e false h = (λ _ p q l k. h p (omega arith) q k, λ e. absurd (true≢false e))
 
 -- one of the labels below b leads from the start to a state that reaches i
 pub record Entered (A : Automaton) (b i : ℕ) : Type 0 where

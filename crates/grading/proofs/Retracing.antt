@@ -1,5 +1,5 @@
 -- The lowest state that can have been before: from sets of states to how they relate, and a table of them row by row.
-use Rattle.std.proofs.Common.{◌≡◌, ℕ, ◌+◌, ◌<◌, ◌↔◌, List, [], ◌∷◌, ◌++◌, length, get_or, set, sym, ap, ◌∙◌, subst, arith, get_or-set_other, get_or-set_same}
+use Rattle.std.proofs.Common.{◌≡◌, ℕ, ◌+◌, ◌<◌, ◌≤◌, ◌↔◌, Some, None, Option, MatchOption, unwrap_or, List, [], ◌∷◌, ◌++◌, length, get_or, set, sym, refl, ap, ◌∙◌, subst, arith, get_or-set_other, get_or-set_same}
 use mathlib.Core.Logic.{∥∥₁_elim}
 use native.Mathlib.Bridge.{le_prop}
 use native.Mathlib.Decide.{ℕ_discrete}
@@ -14,7 +14,7 @@ use Rattle.grading.specs.Backward.{back, Homeward, Filled, Retraces}
 use Rattle.grading.specs.StateSets.{In, Gathers}
 use Rattle.grading.specs.declared.backward.Backward.{Backward}
 use Rattle.grading.specs.declared.states.StateSet.{StateSet}
-use Rattle.grading.proofs.Relating.{almost_from_not_apart}
+use Rattle.grading.proofs.Relating.{not_apart, almost_from_not_apart}
 
 lowest_like : (P Q : ℕ → Type 0) (n other r : ℕ) → ((k : ℕ) → k < n → P k ↔ Q k) → Lowest P n other r → Lowest Q n other r
 lowest_like P Q n other r like (found l h low) = found l ((like r l).0 h) (λ k i q. low k i ((like k (omega arith)).1 q))
@@ -28,6 +28,21 @@ module _ (A : Automaton) (formed : WellFormed A) where
     target = subst (λ x. In x home) is there;
     almost = almost_sym A p (A.step s a) (almost_from_not_apart A p (A.step s a) (λ d. outside (subst (λ x. In x apart) (sym is) ((gathers (A.step s a)).1 (formed.step s a l k, d)))));
   }
+
+  -- the sets say that s can have been before
+  abbrev pub Passes : StateSet → StateSet → ℕ → ℕ → Type 0
+  Passes home apart a s = In s home × In (A.step s a) home × (¬ In (A.step s a) apart)
+
+  passes_from : (home apart : StateSet) (p a s : ℕ) → Gathers (Apart A p) A.states apart → Homeward A home p a s → Passes home apart a s
+  passes_from home apart p a s gathers h = (h.here, h.target, λ i. not_apart A p (A.step s a) (almost_sym A (A.step s a) p h.almost) ((gathers (A.step s a)).0 i).1)
+
+  -- the first state that passes, if there is one
+  pub lowest_read : (home apart : StateSet) (p a n : ℕ) → n ≡ A.states → a < A.labels → Gathers (Apart A p) A.states apart → (o : Option ℕ)
+      → MatchOption o ((s : ℕ) → 0 ≤ s → s < n → ¬ Passes home apart a s) (λ r. (0 ≤ r) × (r < n) × Passes home apart a r × ((s : ℕ) → 0 ≤ s → s < r → ¬ Passes home apart a s))
+      → Lowest (Homeward A home p a) A.states p (unwrap_or o p)
+  lowest_read home apart p a n e k gathers None h = none (λ s l w. h s (omega arith) (omega arith) (passes_from home apart p a s gathers w))
+  lowest_read home apart p a n e k gathers (Some r) (_, l, w, low) =
+      found (omega arith) (homeward_from home apart p a r (A.step r a) refl (omega arith) k gathers w.0 w.1 w.2) (λ s i v. low s (omega arith) i (passes_from home apart p a s gathers v))
 
   internal_step : (s a : ℕ) → a < A.labels → Internal A s → Internal A (A.step s a)
   internal_step s a k i = record {

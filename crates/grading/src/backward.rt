@@ -33,13 +33,12 @@ fn lowest_before(table: &Table, home: StateSet, apart: StateSet, label: u8, stat
     requires { (label < (automaton table.now).labels) × (Gathers (Apart (automaton table.now) state) (automaton table.now).states apart) }
     ensures { Lowest (Homeward (automaton table.now) home state label) (automaton table.now).states state result }
 {
-    for before in 0..table.states() {
-        let target = step(table, before, label);
-        if home.has(before) && home.has(target) && !apart.has(target) {
-            return before;
-        }
-    }
-    state
+    (0..table.states())
+        .find(|&before| {
+            let target = step(table, before, label);
+            home.has(before) && home.has(target) && !apart.has(target)
+        })
+        .unwrap_or(state)
 }
 
 impl Facts<'_> {

@@ -50,11 +50,6 @@ impl Facts<'_> {
     pub fn stackless(&self) -> bool
         ensures { let A = automaton self.now.table.now in Tells result (Stackless A) (Knot A) }
     {
-        for state in 0..self.table.states() {
-            if self.knots(state) {
-                return false;
-            }
-        }
-        true
+        !(0..self.table.states()).any(|state| self.knots(state))
     }
 }

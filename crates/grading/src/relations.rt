@@ -34,14 +34,10 @@ impl Facts<'_> {
         requires { let A = automaton self.now.table.now in (first < A.states) × (second < A.states) }
         ensures { let A = automaton self.now.table.now in Tells result (Almost A first second) (Apart A first second) }
     {
-        for label in 0..self.table.labels() {
+        (0..self.table.labels()).all(|label| {
             let left = step(self.table, first, label);
-            let right = step(self.table, second, label);
-            if self.differ.has(left, right) {
-                return false;
-            }
-        }
-        true
+            !self.differ.has(left, step(self.table, second, label))
+        })
     }
 
     /// The states that are apart from the state.

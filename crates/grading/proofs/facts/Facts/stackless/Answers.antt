@@ -1,15 +1,15 @@
--- The first state that makes a knot decides, or none does.
-use Rattle.std.proofs.Common.{true≢false, arith, below_more}
-use mathlib.Core.Bool.{false≢true}
+-- Some state makes a knot, or none does.
+use Rattle.std.proofs.Common.{rules}
+use borrow.Author.Tests.{tests}
+use Rattle.automata.specs.Grades.{Knot}
 use Rattle.base.specs.Tables.{automaton}
 use Rattle.grading.specs.Knowing.{Plain}
+use Rattle.grading.proofs.Ranges.{any_below}
+use Rattle.grading.proofs.Relating.{stackless_read}
 use Rattle.grading.proofs.facts.Facts.stackless.Goals as goal
 
-pub loop-state-preserved : goal.loop-state-preserved
-loop-state-preserved c = below_more (Plain (automaton c.args.self.now.table.now)) c.loop-state.state c.loop-state.invariant (c.knots.ensures.1 c.if-knots.false)
-
 pub returns : goal.returns
-returns c = (λ _ p q h. c.loop-state.invariant p (omega arith) q, λ e. absurd (true≢false e))
-
-pub returns-then-knots : goal.returns-then-knots
-returns-then-knots c = (λ e. absurd (false≢true e), λ _. c.knots.ensures.0 c.if-knots.true)
+returns c =
+    let A = automaton c.args.self.now.table.now in
+    stackless_read A c.states.result c.states.ensures c.any.result
+    (any_below c.states.result _ _ c.any.result (λ _. Knot A) (Plain A) c.any.ensures.ran (λ x q k. search (rules, tests)) (λ x q k. search (rules, tests)))
