@@ -1,8 +1,7 @@
 -- The lowest state that can have been before: from sets of states to how they relate, and a table of them row by row.
-use Rattle.std.proofs.Common.{◌≡◌, ℕ, ◌+◌, ◌<◌, ◌≤◌, ◌↔◌, Some, None, Option, MatchOption, unwrap_or, List, [], ◌∷◌, ◌++◌, length, get_or, set, sym, refl, ap, ◌∙◌, subst, arith, get_or-set_other, get_or-set_same}
+use Rattle.std.proofs.Common.{◌≡◌, ℕ, ◌<◌, ◌≤◌, ◌↔◌, Some, None, Option, MatchOption, unwrap_or, List, [], ◌∷◌, ◌++◌, get_or, sym, refl, ap, ◌∙◌, subst, arith}
 use mathlib.Core.Logic.{∥∥₁_elim}
 use native.Mathlib.Bridge.{le_prop}
-use native.Mathlib.Decide.{ℕ_discrete}
 use Rattle.automata.specs.Automata.{Automaton, WellFormed}
 use Rattle.automata.specs.Holding.{Before as BeforeInternal}
 use Rattle.automata.specs.Lowest.{Lowest, found, none}
@@ -10,7 +9,7 @@ use Rattle.automata.specs.Noting.{Before as BeforeInside}
 use Rattle.automata.specs.States.{Internal, Apart, Together}
 use Rattle.automata.proofs.Together.{almost_sym}
 use Rattle.automata.proofs.Words.{run_append, word_append}
-use Rattle.grading.specs.Backward.{back, Homeward, Filled, Retraces}
+use Rattle.grading.specs.Backward.{back, Homeward, Filled, Returns, Retraces}
 use Rattle.grading.specs.StateSets.{In, Gathers}
 use Rattle.grading.specs.declared.backward.Backward.{Backward}
 use Rattle.grading.specs.declared.states.StateSet.{StateSet}
@@ -53,7 +52,7 @@ module _ (A : Automaton) (formed : WellFormed A) where
   }
 
   -- the row of the state p, with the internal states at home
-  pub row_internal : (home : StateSet) (p : ℕ) (row : List ℕ) → Gathers (Internal A) A.states home → Filled A home p A.labels row → (a : ℕ) → a < A.labels → Lowest (BeforeInternal A p a) A.states p (get_or row a 0)
+  row_internal : (home : StateSet) (p : ℕ) (row : List ℕ) → Gathers (Internal A) A.states home → Filled A home p A.labels row → (a : ℕ) → a < A.labels → Lowest (BeforeInternal A p a) A.states p (get_or row a 0)
   row_internal home p row gathers filled a k = lowest_like (Homeward A home p a) (BeforeInternal A p a) A.states p (get_or row a 0) like (filled a k)
     where
       like : (s : ℕ) → s < A.states → Homeward A home p a s ↔ BeforeInternal A p a s
@@ -63,7 +62,7 @@ module _ (A : Automaton) (formed : WellFormed A) where
       )
 
   -- and with its component
-  pub row_inside : (home : StateSet) (p : ℕ) (row : List ℕ) → Gathers (Together A p) A.states home → Filled A home p A.labels row → (a : ℕ) → a < A.labels → Lowest (BeforeInside A p a) A.states p (get_or row a 0)
+  row_inside : (home : StateSet) (p : ℕ) (row : List ℕ) → Gathers (Together A p) A.states home → Filled A home p A.labels row → (a : ℕ) → a < A.labels → Lowest (BeforeInside A p a) A.states p (get_or row a 0)
   row_inside home p row gathers filled a k = lowest_like (Homeward A home p a) (BeforeInside A p a) A.states p (get_or row a 0) like (filled a k)
     where
       like : (s : ℕ) → s < A.states → Homeward A home p a s ↔ BeforeInside A p a s
@@ -72,21 +71,14 @@ module _ (A : Automaton) (formed : WellFormed A) where
         λ h. record { here = (gathers s).1 (l, h.together); target = (gathers (A.step s a)).1 (formed.step s a l k, h.target); almost = h.almost },
       )
 
+  -- so it is of all rows
+  pub retraces_internal : (homes : ℕ → StateSet → Type 0) (b : Backward) → ((p : ℕ) (home : StateSet) → p < A.states → homes p home → Gathers (Internal A) A.states home) → Returns A homes b → Retraces A (BeforeInternal A) b
+  retraces_internal homes b internal returns p a l k = let r = returns p l in ∣ row_internal r.home p (get_or b.targets p []) (internal p r.home l r.of) r.filled a k ∣₁
+
+  pub retraces_inside : (homes : ℕ → StateSet → Type 0) (b : Backward) → ((p : ℕ) (home : StateSet) → p < A.states → homes p home → Gathers (Together A p) A.states home) → Returns A homes b → Retraces A (BeforeInside A) b
+  retraces_inside homes b inside returns p a l k = let r = returns p l in ∣ row_inside r.home p (get_or b.targets p []) (inside p r.home l r.of) r.filled a k ∣₁
+
 module _ (A : Automaton) (Before : ℕ → ℕ → ℕ → Type 0) where
-  -- the rows below n are written
-  abbrev pub Retraced : ℕ → List (List ℕ) → Type 0
-  Retraced n rows = (p a : ℕ) → p < n → a < A.labels → Lowest (Before p a) A.states p (get_or (get_or rows p []) a 0)
-
-  pub retraced_more : (n : ℕ) (rows : List (List ℕ)) (row : List ℕ) → n < length rows → ((a : ℕ) → a < A.labels → Lowest (Before n a) A.states n (get_or row a 0)) → Retraced n rows → Retraced (n + 1) (set rows n row)
-  retraced_more n rows row tall here h p a l k = cases (ℕ_discrete p n)
-    where
-      cases : Dec (p ≡ n) → Lowest (Before p a) A.states p (get_or (get_or (set rows n row) p []) a 0)
-      cases (yes e) = subst (λ p. Lowest (Before p a) A.states p (get_or (get_or (set rows n row) p []) a 0)) (sym e) (subst (λ r. Lowest (Before n a) A.states n (get_or r a 0)) (sym (get_or-set_same rows n row [] tall)) (here a k))
-      cases (no ne) = subst (λ r. Lowest (Before p a) A.states p (get_or r a 0)) (sym (get_or-set_other rows n p row [] ne)) (h p a (omega arith) k)
-
-  pub retraced_all : (n : ℕ) (rows : List (List ℕ)) → n ≡ A.states → Retraced n rows → Retraces A Before (record { targets = rows })
-  retraced_all n rows e h p a l k = ∣ h p a (omega arith) k ∣₁
-
   -- the way back stays among the states
   pub back_below : (b : Backward) → Retraces A Before b → (p a : ℕ) → p < A.states → a < A.labels → back b p a < A.states
   back_below b h p a l k = ∥∥₁_elim (h p a l k) le_prop (below (back b p a))

@@ -1,5 +1,6 @@
 pub mod StateSets
 pub mod Words
+pub mod Tabulating
 pub mod Preceding
 pub mod Pairing
 pub mod Worklists

@@ -1,16 +1,17 @@
 //! Where a selector without a stack goes back to as an element closes.
-ghost use Rattle.std.specs.Prelude.{◌≡◌, ◌<◌};
+ghost use Rattle.std.specs.Prelude.{◌≡◌, ℕ, ◌<◌};
 ghost use Rattle.automata.specs.Holding.{Before as BeforeInternal};
 ghost use Rattle.automata.specs.Lowest.{Lowest};
 ghost use Rattle.automata.specs.Noting.{Before as BeforeInside};
 ghost use Rattle.automata.specs.States.{Apart};
 ghost use Rattle.base.specs.Tables.{automaton};
-ghost use Rattle.grading.specs.Backward.{back, Homeward, Filled, Retraces};
+ghost use Rattle.grading.specs.Backward.{back, Homeward, Filled, Homed, Returns, Retraces};
 ghost use Rattle.grading.specs.StateSets.{Gathers};
 
 use crate::facts::Facts;
 use crate::reading::step;
 use crate::states::StateSet;
+use crate::tabulate::tabulate;
 use base::table::Table;
 
 /// For each state and label the state to go back to.
@@ -48,11 +49,27 @@ impl Facts<'_> {
         ensures { let A = automaton self.now.table.now in Filled A home state A.labels result }
     {
         let apart = self.apart(state);
-        let mut targets = [0; 16];
-        for label in 0..self.table.labels() {
-            targets[label as usize] = lowest_before(self.table, home, apart, label, state);
-        }
-        targets
+        tabulate(
+            self.table.labels(),
+            0,
+            |label| lowest_before(self.table, home, apart, label, state),
+        )
+    }
+
+    // Where to go back to from each state inside its home.
+    fn back_to<F: Fn(u8) -> StateSet>(&self, home: F) -> Backward
+        requires { (state : ℕ) → state < (automaton self.now.table.now).states → F.pre home state }
+        ensures { Returns (automaton self.now.table.now) (F.post home) result }
+    {
+        let targets = tabulate(
+            self.table.states(),
+            [0; 16],
+            |state: u8| -> [u8; 16]
+                requires { state < (automaton self.now.table.now).states × F.pre home state }
+                ensures { Homed (automaton self.entry.now.table.now) (F.post home) state result }
+            { self.back_from(home(state), state) },
+        );
+        Backward { targets }
     }
 
     /// Where to go back to among the internal states.
@@ -60,22 +77,13 @@ impl Facts<'_> {
         ensures { let A = automaton self.now.table.now in Retraces A (BeforeInternal A) result }
     {
         let internal = self.internal();
-        let mut targets = [[0; 16]; 32];
-        for state in 0..self.table.states() {
-            targets[state as usize] = self.back_from(internal, state);
-        }
-        Backward { targets }
+        self.back_to(|_| internal)
     }
 
     /// Where to go back to inside the component of each state.
     pub(crate) fn back_inside(&self) -> Backward
         ensures { let A = automaton self.now.table.now in Retraces A (BeforeInside A) result }
     {
-        let mut targets = [[0; 16]; 32];
-        for state in 0..self.table.states() {
-            let component = self.component(state);
-            targets[state as usize] = self.back_from(component, state);
-        }
-        Backward { targets }
+        self.back_to(|state| self.component(state))
     }
 }

@@ -5,6 +5,7 @@ ghost use Rattle.base.specs.Tables.{automaton};
 ghost use Rattle.grading.specs.Numbered.{Numbered};
 
 use crate::facts::Facts;
+use crate::tabulate::tabulate;
 
 impl Facts<'_> {
     // The lowest state of the state's component.
@@ -44,10 +45,6 @@ impl Facts<'_> {
     pub fn component_numbers(&self) -> [u8; 32]
         ensures { Numbered (automaton self.now.table.now) result }
     {
-        let mut numbers = [0; 32];
-        for state in 0..self.table.states() {
-            numbers[state as usize] = self.component_number(state);
-        }
-        numbers
+        tabulate(self.table.states(), 0, |state| self.component_number(state))
     }
 }

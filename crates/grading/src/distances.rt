@@ -7,6 +7,7 @@ ghost use Rattle.grading.specs.StateSets.{In};
 use crate::products::{Pair, Seeds};
 use crate::reading::step_both;
 use crate::states::StateSet;
+use crate::tabulate::tabulate;
 use base::table::Table;
 
 // The distance of a pair that no labels lead to a wanted one.
@@ -102,20 +103,19 @@ fn seeded<S: Seeds>(states: u8, seeds: &S) -> [[u16; 32]; 32]
     requires { states ≤ 32 }
     ensures { (p : ℕ) → p < states → Marks (S.wanted seeds.now p) (slice_index_or result p []) }
 {
-    let mut rows = [[NONE; 32]; 32];
-    for first in 0..states {
-        rows[first as usize] = row_of(seeds.row(first));
-    }
-    rows
+    tabulate(
+        states,
+        [NONE; 32],
+        |first: u8| -> [u16; 32]
+            requires { first < 32 }
+            ensures { Marks (S.wanted seeds.entry.now first) result }
+        { row_of(seeds.row(first)) },
+    )
 }
 
 // 0 for each state of the set, and `NONE` for the others.
-fn row_of(mut wanted: StateSet) -> [u16; 32]
+fn row_of(wanted: StateSet) -> [u16; 32]
     ensures { Marks (λ q. In q wanted) result }
 {
-    let mut row = [NONE; 32];
-    while let Some(second) = wanted.take_lowest() {
-        row[second as usize] = 0;
-    }
-    row
+    tabulate(32, NONE, |second| if wanted.has(second) { 0 } else { NONE })
 }

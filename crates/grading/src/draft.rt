@@ -7,6 +7,7 @@ ghost use Rattle.grading.specs.Knowing.{Agrees};
 
 use crate::pairs::Pairs;
 use crate::reading::{says_yes, step};
+use crate::tabulate::tabulate;
 use base::table::Table;
 
 /// For each number the old state that it stands for, and its targets.
@@ -52,10 +53,10 @@ impl Draft {
         requires { (self.now.count ≤ 32) × (((k : ℕ) → k < self.now.count → olds self.now k < (automaton table.now).states)) }
         ensures { (k : ℕ) → k < self.entry.now.count → slice_index_or result k false ≡ (automaton table.now).yes (olds self.entry.now k) }
     {
-        let mut says = [false; 32];
-        for number in 0..self.count {
-            says[number as usize] = says_yes(table, self.old[number as usize]);
-        }
-        says
+        tabulate(
+            self.count,
+            false,
+            |number| says_yes(table, self.old[number as usize]),
+        )
     }
 }

@@ -23,6 +23,7 @@ mod seeds;
 mod spread;
 pub mod stackless;
 mod states;
+mod tabulate;
 mod walk;
 pub mod word;
 mod worklist;
