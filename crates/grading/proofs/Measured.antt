@@ -1,11 +1,18 @@
 -- Once a round gives no distance, each pair has the least number of labels that lead it to a wanted one.
-use Rattle.std.proofs.Common.{◌≡◌, ℕ, ◌+◌, ◌-◌, ◌<◌, ◌≤◌, ◌≢◌, ◌⊎◌, List, [], ◌∷◌, length, get_or, sym, refl, subst, inl, inr, ⊎_elim, arith}
+use Rattle.std.proofs.Common.{◌≡◌, ℕ, ◌+◌, ◌-◌, ◌<◌, ◌≤◌, Bool, true, false, ◌≢◌, ◌⊎◌, Decides, List, [], ◌∷◌, length, get_or, sym, refl, subst, inl, inr, ⊎_elim, arith}
+use Rattle.std.specs.Bool.{MatchBool}
 use native.Mathlib.Decide.{dec_lt}
+use mathlib.Core.Bool.{false≢true}
 use Rattle.automata.specs.Automata.{Automaton, Word, run, WellFormed}
-use Rattle.grading.specs.Measuring.{distance, unmeasured, Marks, Near, SomeNear, Given, Round, AtLeast, Least, Measures}
+use Rattle.grading.specs.Measuring.{distance, distance_after, unmeasured, Marks, Near, SomeNear, Given, Round, AtLeast, Least, Measures}
 use Rattle.grading.specs.Pairing.{total}
 use Rattle.grading.specs.declared.distances.Distances.{Distances}
 use Rattle.grading.proofs.Rounds.{total_most, total_less}
+
+-- whether a label leads to a pair at the distance k
+pub near_read : (A : Automaton) (k : ℕ) (d : Distances) (p q n : ℕ) → n ≡ A.labels → (r : Bool) → MatchBool r ((a : ℕ) × (a < n) × (distance_after A d p q a ≡ k)) ((a : ℕ) → a < n → distance_after A d p q a ≢ k) → Decides r (Near A k d p q)
+near_read A k d p q n e true (a, l, is) = (λ _. record { label = a; below = omega arith; leads = is }, λ _. refl)
+near_read A k d p q n e false none = (λ e. absurd (false≢true e), λ h. absurd (none h.label (omega (arith, h.below)) h.leads))
 
 -- a pair with a distance leaves fewer than all without
 some_measured : (d : Distances) (p q : ℕ) → p < 32 → q < 32 → distance d p q < 65535 → unmeasured d < 1024

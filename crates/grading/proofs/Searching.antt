@@ -13,6 +13,7 @@ use Rattle.automata.proofs.Words.{run_below}
 use Rattle.grading.specs.Knowing.{Agrees, Known}
 use Rattle.grading.specs.Pairing.{Has}
 use Rattle.base.specs.Tables.{automaton}
+use Rattle.grading.specs.declared.differing.Differing.{Differing}
 use Rattle.grading.specs.declared.facts.Facts.{Facts}
 use Rattle.grading.specs.declared.pairs.Pairs.{Pairs}
 use Rattle.grading.proofs.Agreeing.{well_formed}
@@ -125,7 +126,7 @@ module _ (A : Automaton) where
     λ r. ∥∥₁_elim h (ℕ_set _ _) (λ g. (g p q).1 r),
   )
 
-  pub differ_so : (m : Pairs) → ∥ Agrees A.states (Differ A) m ∥₁ → Agrees A.states (Differ A) m
+  differ_so : (m : Pairs) → ∥ Agrees A.states (Differ A) m ∥₁ → Agrees A.states (Differ A) m
   differ_so m = agrees_so (Differ A) m so
     where
       so : (p q : ℕ) → p < A.states → q < A.states → ∥ Differ A p q ∥₁ → Differ A p q
@@ -170,3 +171,6 @@ module _ (A : Automaton) where
 
 pub known_of : (f : Facts) → Known (automaton f.table.now) f.differ f.meet f.reach f.inside
 known_of f = known_so (automaton f.table.now) (well_formed f.table.now) f.differ f.meet f.reach f.inside f.known
+
+pub agrees_of : (d : Differing) → Agrees (automaton d.table.now).states (Differ (automaton d.table.now)) d.pairs
+agrees_of d = differ_so (automaton d.table.now) d.pairs d.agrees

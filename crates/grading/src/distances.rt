@@ -58,12 +58,7 @@ impl Distances {
         requires { (pair.first < (automaton table.now).states) × (pair.second < (automaton table.now).states) }
         ensures { Decides result (Near (automaton table.now) steps self.now pair.first pair.second) }
     {
-        for label in 0..table.labels() {
-            if self.after(table, pair, label) == steps {
-                return true;
-            }
-        }
-        false
+        (0..table.labels()).any(|label| self.after(table, pair, label) == steps)
     }
 
     // Gives the pair the next distance, where it has none and a label leads it to a pair at this one.

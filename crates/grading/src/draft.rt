@@ -1,11 +1,9 @@
 //! A table under construction, its states numbered as they are met.
 ghost use Rattle.std.specs.Prelude.{◌≡◌, ℕ, ◌+◌, ◌*◌, ◌<◌, ◌≤◌, false, slice_index_or};
-ghost use Rattle.automata.specs.States.{Differ};
 ghost use Rattle.base.specs.Tables.{automaton};
 ghost use Rattle.grading.specs.Drafts.{olds, Free, Named, Drafted};
-ghost use Rattle.grading.specs.Knowing.{Agrees};
 
-use crate::pairs::Pairs;
+use crate::differing::Differing;
 use crate::reading::{says_yes, step};
 use crate::tabulate::tabulate;
 use base::table::Table;
@@ -20,12 +18,12 @@ pub struct Draft {
 
 impl Draft {
     // The number of the old state, or of one like it; a new number where there is none.
-    fn name(&mut self, differ: &Pairs, state: u8) -> u8
-        requires { (state < 32) × (Free differ.now self.now state) }
-        ensures { Named differ.now self.entry.now state result self.exit.now }
+    fn name(&mut self, differ: &Differing, state: u8) -> u8
+        requires { (state < 32) × (Free differ.now.pairs self.now state) }
+        ensures { Named differ.now.pairs self.entry.now state result self.exit.now }
     {
         for number in 0..self.count {
-            if !differ.has(self.old[number as usize], state) {
+            if !differ.pairs.has(self.old[number as usize], state) {
                 return number;
             }
         }
@@ -36,13 +34,12 @@ impl Draft {
     }
 
     /// Writes the targets of one number.
-    pub fn write_row(&mut self, table: &Table, differ: &Pairs, number: u8)
-        requires agrees { Agrees (automaton table.now).states (Differ (automaton table.now)) differ.now }
-        requires drafted { (number < self.now.count) × (Drafted (automaton table.now) self.now (16 * number)) }
-        ensures { Drafted (automaton table.now) self.exit.now (16 * (number + 1)) }
+    pub fn write_row(&mut self, differ: &Differing, number: u8)
+        requires { (number < self.now.count) × (Drafted (automaton differ.now.table.now) self.now (16 * number)) }
+        ensures { Drafted (automaton differ.now.table.now) self.exit.now (16 * (number + 1)) }
     {
-        for label in 0..table.labels() {
-            let target = step(table, self.old[number as usize], label);
+        for label in 0..differ.table.labels() {
+            let target = step(differ.table, self.old[number as usize], label);
             let name = self.name(differ, target);
             self.targets[number as usize][label as usize] = name;
         }

@@ -1,13 +1,13 @@
 //! What is known of the states of a table.
-ghost use Rattle.std.specs.Prelude.{◌≡◌, ℕ, ◌<◌};
-ghost use Rattle.automata.specs.States.{Differ};
+ghost use Rattle.std.specs.Prelude.{◌≡◌};
 ghost use Rattle.base.specs.Tables.{automaton};
-ghost use Rattle.grading.specs.Knowing.{Agrees, Known};
+ghost use Rattle.grading.specs.Knowing.{Known};
 
+use crate::differing::Differing;
 use crate::moves::{Both, First, Inside};
 use crate::pairs::Pairs;
 use crate::predecessors::Predecessors;
-use crate::seeds::{Same, Unlike};
+use crate::seeds::Same;
 use crate::spread::spread;
 use base::table::Table;
 
@@ -24,13 +24,6 @@ pub struct Facts<'a> {
     ghost known: { ∥ Known (automaton table.now) differ meet reach inside ∥₁ },
 }
 
-/// The pairs of states that some word tells apart.
-pub fn differing(before: &Predecessors) -> Pairs
-    ensures { Agrees (automaton before.now.table.now).states (Differ (automaton before.now.table.now)) result }
-{
-    spread(before.table, &Both { before }, &Unlike::of(before.table))
-}
-
 impl<'a> Facts<'a> {
     pub fn of(table: &'a Table) -> Facts<'a>
         ensures { result.table.now ≡ table.now }
@@ -44,7 +37,7 @@ impl<'a> Facts<'a> {
         };
         Facts {
             table,
-            differ: differing(before),
+            differ: Differing::of(before).pairs,
             meet: spread(table, &Both { before }, &Same),
             reach,
             inside: spread(table, &inside, &Same),

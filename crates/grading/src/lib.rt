@@ -6,6 +6,7 @@ pub mod begun;
 pub mod clash;
 mod components;
 mod denials;
+mod differing;
 mod distances;
 mod draft;
 mod facts;

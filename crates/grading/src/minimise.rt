@@ -2,8 +2,8 @@
 ghost use Rattle.automata.specs.Minimising.{Minimised, OnlyMinimised};
 ghost use Rattle.base.specs.Tables.{automaton};
 
+use crate::differing::Differing;
 use crate::draft::Draft;
-use crate::facts::differing;
 use crate::predecessors::Predecessors;
 use base::table::Table;
 
@@ -14,7 +14,7 @@ pub fn minimise(table: &Table) -> Table
     ensures only { OnlyMinimised (automaton table.now) (automaton result) }
 {
     let before = Predecessors::of(table);
-    let differ = differing(&before);
+    let differ = Differing::of(&before);
     let mut draft = Draft {
         count: 1,
         old: [table.start(); 32],
@@ -22,7 +22,7 @@ pub fn minimise(table: &Table) -> Table
     };
     let mut number = 0;
     while number < draft.count {
-        draft.write_row(table, &differ, number);
+        draft.write_row(&differ, number);
         number += 1;
     }
     let accepting = draft.accepting(table);

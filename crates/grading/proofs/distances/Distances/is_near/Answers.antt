@@ -1,17 +1,15 @@
--- The first label that leads to such a pair decides, or none does.
-use Rattle.std.proofs.Common.{◌≢◌, sym, refl, ◌∙◌, arith, below_more}
-use mathlib.Core.Bool.{false≢true}
+-- Some label leads to such a pair, or none does.
+use Rattle.std.proofs.Common.{◌≡◌, ◌≢◌, ℕ, rules}
+use borrow.Author.Tests.{tests}
 use Rattle.base.specs.Tables.{automaton}
 use Rattle.grading.specs.Measuring.{distance_after}
+use Rattle.grading.proofs.Measured.{near_read}
+use Rattle.grading.proofs.Ranges.{any_below}
 use Rattle.grading.proofs.distances.Distances.is_near.Goals as goal
 
-pub loop-label-preserved : goal.loop-label-preserved
-loop-label-preserved c =
-    below_more (λ a. distance_after (automaton c.args.table.now) c.args.self.now c.args.pair.first c.args.pair.second a ≢ c.args.steps) c.loop-label.label c.loop-label.invariant
-    (λ e. c.if-after-steps.false (c.after.ensures ∙ e))
-
 pub returns : goal.returns
-returns c = (λ e. absurd (false≢true e), λ n. absurd (c.loop-label.invariant n.label (omega (arith, n.below)) n.leads))
-
-pub returns-then-after-steps : goal.returns-then-after-steps
-returns-then-after-steps c = (λ _. record { label = c.loop-label.label; below = omega arith; leads = sym c.after.ensures ∙ c.if-after-steps.true }, λ _. refl)
+returns c =
+    let A = automaton c.args.table.now in
+    let f : ℕ → ℕ = distance_after A c.args.self.now c.args.pair.first c.args.pair.second in
+    near_read A c.args.steps c.args.self.now c.args.pair.first c.args.pair.second c.labels.result c.labels.ensures c.any.result
+    (any_below c.labels.result _ _ c.any.result (λ a. f a ≡ c.args.steps) (λ a. f a ≢ c.args.steps) c.any.ensures.ran (λ x q k. search (rules, tests)) (λ x q k. search (rules, tests)))

@@ -5,4 +5,4 @@ use Rattle.grading.specs.Pairing.{Has}
 use Rattle.grading.proofs.draft.Draft.name.Given as goal
 
 abbrev pub invariant-loop-number : goal.invariant-loop-number
-invariant-loop-number l = (k : ℕ) → k < l.number → Has l.differ (olds l.self k) l.state
+invariant-loop-number l = (k : ℕ) → k < l.number → Has l.differ.pairs (olds l.self k) l.state

@@ -5,4 +5,4 @@ use Rattle.grading.specs.Drafts.{Drafted}
 use Rattle.grading.proofs.draft.Draft.write_row.Given as goal
 
 abbrev pub invariant-loop-label : goal.invariant-loop-label
-invariant-loop-label l = Drafted (automaton l.table) l.self (16 * l.number + l.label) × (l.number < l.self.count)
+invariant-loop-label l = Drafted (automaton l.differ.table.now) l.self (16 * l.number + l.label) × (l.number < l.self.count)
