@@ -13,8 +13,7 @@ impl Facts<'_> {
         requires { state < (automaton self.now.table.now).states }
         ensures { Numbers (automaton self.now.table.now) state result }
     {
-        let mut component = self.component(state);
-        match component.take_lowest() {
+        match self.component(state).next() {
             Some(lowest) => lowest,
             None => unreachable(),
         }

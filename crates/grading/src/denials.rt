@@ -28,8 +28,7 @@ impl Facts<'_> {
         ensures { let A = automaton self.now.table.now in MatchOption result (Registerless A) (λ pair. LowestClash A pair.first pair.second) }
     {
         for first in 0..self.table.states() {
-            let mut others = self.clashing(first);
-            if let Some(second) = others.take_lowest() {
+            if let Some(second) = self.clashing(first).next() {
                 return Some(Pair { first, second });
             }
         }

@@ -1,5 +1,6 @@
 //! Sets of states.
 ghost use Rattle.std.specs.Prelude.{◌≡◌, ℕ, ◌<◌, ◌≤◌, ◌⊎◌, ◌↔◌, Decides};
+ghost use Rattle.std.specs.Iterator.{at_most};
 ghost use Rattle.grading.specs.StateSets.{In, empty, None, Any, Tells, Sifts, Takes};
 
 /// Some of the states below 32: a bit for each.
@@ -77,11 +78,17 @@ impl StateSet {
             mask: self.mask & other.mask,
         }
     }
+}
+
+impl Iterator for StateSet {
+    type Item = u8;
+
+    ghost next_gives = { λ s r t. Takes s t r };
+
+    ghost remaining = { λ s. at_most s.mask };
 
     /// Takes the lowest state out.
-    pub fn take_lowest(&mut self) -> Option<u8>
-        ensures { Takes self.old self.new result }
-    {
+    fn next(&mut self) -> Option<u8> {
         if self.mask == 0 {
             return None;
         }

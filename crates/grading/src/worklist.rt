@@ -28,11 +28,11 @@ impl Worklist<'_> {
     }
 
     // Visits the pairs of one first state with each of the second ones.
-    fn visit_row(&mut self, first: u8, mut seconds: StateSet)
+    fn visit_row(&mut self, first: u8, seconds: StateSet)
         requires { (first < 32) × (Room self.old) }
         ensures { Visits (λ p q. (p ≡ first) × In q seconds) self.old self.new }
     {
-        while let Some(second) = seconds.take_lowest() {
+        for second in seconds {
             self.visit(first, second);
         }
     }
@@ -42,8 +42,7 @@ impl Worklist<'_> {
         requires { Room self.old }
         ensures { Visits (λ p q. In p product.firsts × In q product.seconds) self.old self.new }
     {
-        let mut firsts = product.firsts;
-        while let Some(first) = firsts.take_lowest() {
+        for first in product.firsts {
             self.visit_row(first, product.seconds);
         }
     }

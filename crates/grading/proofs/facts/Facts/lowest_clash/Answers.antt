@@ -10,7 +10,7 @@ pub loop-first-preserved : goal.loop-first-preserved
 loop-first-preserved c =
     let t = c.args.self.now.table.now in
     below_more (λ p. (q : ℕ) → ¬ Clashing (automaton t) p q) c.loop-first.first c.loop-first.invariant
-    (no_clash (automaton t) (well_formed t) c.loop-first.first c.clashing-others.result c.clashing-others.ensures c.in_default.ensures.0)
+    (no_clash (automaton t) (well_formed t) c.loop-first.first c.clashing.result c.clashing.ensures c.in_default.ensures.steps.0)
 
 pub returns : goal.returns
 returns c =
@@ -20,4 +20,4 @@ returns c =
 pub returns-in-Some : goal.returns-in-Some
 returns-in-Some c =
     let t = c.args.self.now.table.now in
-    lowest_clash (automaton t) (well_formed t) c.loop-first.first c.clashing-others.result c.clashing-others.ensures c.take_lowest.new.self c.in-Some.second c.in-Some.ensures c.loop-first.invariant
+    lowest_clash (automaton t) (well_formed t) c.loop-first.first c.clashing.result c.clashing.ensures c.next.new.self c.in-Some.second c.in-Some.ensures.steps c.loop-first.invariant

@@ -7,7 +7,4 @@ use Rattle.grading.proofs.worklist.Worklist.visit_product.Given as goal
 abbrev pub invariant-loop-first : goal.invariant-loop-first
 invariant-loop-first l =
     Room l.self
-    × ((t : Worklist) → Visits (λ p q. In p l.firsts × In q l.product.seconds) l.self t → Visits (λ p q. In p l.product.firsts × In q l.product.seconds) l.initial.self t)
-
-abbrev pub decreases-loop-first : goal.decreases-loop-first
-decreases-loop-first l = l.firsts.mask
+    × ((t : Worklist) → Visits (λ p q. In p l.first-iterator × In q l.product.seconds) l.self t → Visits (λ p q. In p l.product.firsts × In q l.product.seconds) l.initial.self t)

@@ -7,8 +7,8 @@ use Rattle.grading.proofs.worklist.Worklist.visit_row.Goals as goal
 pub loop-second-preserved : goal.loop-second-preserved
 loop-second-preserved c = (
   room_kept (λ p q. (p ≡ c.args.first) × (q ≡ c.in-Some.second)) c.loop-second.self c.visit.new.self c.visit.ensures c.loop-second.invariant.0,
-  λ t h. c.loop-second.invariant.1 t (visits_row c.loop-second.seconds c.take_lowest.new.self c.in-Some.second c.in-Some.ensures c.loop-second.self c.visit.new.self t c.args.first c.visit.ensures h),
+  λ t h. c.loop-second.invariant.1 t (visits_row c.loop-second.second-iterator c.next.new.self c.in-Some.second c.in-Some.ensures.steps c.loop-second.self c.visit.new.self t c.args.first c.visit.ensures h),
 )
 
 pub returns : goal.returns
-returns c = c.loop-second.invariant.1 c.loop-second.self (visits_none (λ p q. (p ≡ c.args.first) × In q c.loop-second.seconds) c.loop-second.self (λ p q (_, i). c.in_default.ensures.0 q i))
+returns c = c.loop-second.invariant.1 c.loop-second.self (visits_none (λ p q. (p ≡ c.args.first) × In q c.loop-second.second-iterator) c.loop-second.self (λ p q (_, i). c.in-None.ensures.steps.0 q i))

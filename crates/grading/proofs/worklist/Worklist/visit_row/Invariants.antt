@@ -8,7 +8,4 @@ use Rattle.grading.proofs.worklist.Worklist.visit_row.Given as goal
 abbrev pub invariant-loop-second : goal.invariant-loop-second
 invariant-loop-second l =
     Room l.self
-    × ((t : Worklist) → Visits (λ p q. (p ≡ l.first) × In q l.seconds) l.self t → Visits (λ p q. (p ≡ l.first) × In q l.initial.seconds) l.initial.self t)
-
-abbrev pub decreases-loop-second : goal.decreases-loop-second
-decreases-loop-second l = l.seconds.mask
+    × ((t : Worklist) → Visits (λ p q. (p ≡ l.first) × In q l.second-iterator) l.self t → Visits (λ p q. (p ≡ l.first) × In q l.fn.seconds) l.initial.self t)

@@ -4,7 +4,7 @@ use lib.Count.{count_trailing_zeros}
 use Rattle.std.proofs.lemmas.Nat.{one_shl, pow_pos}
 use Rattle.grading.specs.StateSets.{digit, Taken}
 use Rattle.grading.proofs.Digits.{digit_none, lowest_digit}
-use Rattle.grading.proofs.states.StateSet.take_lowest.Goals as goal
+use Rattle.grading.proofs.states.StateSetIterator.next.Goals as goal
 
 -- without its lowest digit a number has the others
 taken : (m : ℕ) → 0 < m → m < 2 ^ 32 → Taken (record { mask = m }) (record { mask = m - 2 ^ count_trailing_zeros 32 m }) (count_trailing_zeros 32 m)
@@ -25,8 +25,8 @@ taken m some h =
       λ (e, ne). kept ne ∙ e,
     )
 
-pub returns-then-self-eq0 : goal.returns-then-self-eq0
-returns-then-self-eq0 c = (λ i e. omega (arith, sym (ap (λ m. digit m i) c.if-self-eq0.true ∙ digit_none i) ∙ e), refl)
+pub returns-then-self-eq0-clause-steps : goal.returns-then-self-eq0-clause-steps
+returns-then-self-eq0-clause-steps c = (λ i e. omega (arith, sym (ap (λ m. digit m i) c.if-self-eq0.true ∙ digit_none i) ∙ e), refl)
 
 pub overflow_sub-self : goal.overflow_sub-self
 overflow_sub-self c =
@@ -34,8 +34,8 @@ overflow_sub-self c =
     let l = lowest_digit 32 m (omega arith) (omega arith) in
     omega (arith, one_shl (count_trailing_zeros 32 m) 32 l.below, l.within)
 
-pub returns : goal.returns
-returns c =
+pub returns-clause-steps : goal.returns-clause-steps
+returns-clause-steps c =
     let m = c.args.self.now.mask in
     let l = lowest_digit 32 m (omega arith) (omega arith) in
     subst (λ x. Taken (record { mask = m }) (record { mask = m - x }) (count_trailing_zeros 32 m)) (sym (one_shl (count_trailing_zeros 32 m) 32 l.below)) (taken m (omega arith) (omega arith))
