@@ -15,7 +15,7 @@ equivalent_run A p q w word e v h = ap A.yes (sym (run_append A p w v)) ∙ e (w
 -- all is written
 module _ (A : Automaton) (narrow : A.labels ≤ 16) (o : ℕ → ℕ) (m : ℕ) (T : ℕ → ℕ → ℕ) (n : ℕ) (h : Building A o m T n) (whole : 16 * m ≤ n)
     (B : Automaton) (labels : B.labels ≡ A.labels) (states : B.states ≡ m) (start : B.start ≡ 0)
-    (steps : (r b : ℕ) → B.step r b ≡ T r b) (says : (k : ℕ) → k < m → B.yes k ≡ A.yes (o k)) where
+    (steps : (r b : ℕ) → r < m → B.step r b ≡ T r b) (says : (k : ℕ) → k < m → B.yes k ≡ A.yes (o k)) where
   done : (r b : ℕ) → r < m → b < A.labels → 16 * r + b < n
   done r b l k = omega arith
 
@@ -25,7 +25,7 @@ module _ (A : Automaton) (narrow : A.labels ≤ 16) (o : ℕ → ℕ) (m : ℕ) 
   like p (a ∷ w) l (k, word) =
       let x : ℕ = T p a in
       let y = like x w (h.inside p a k (done p a l k)) word in
-      let e : run B (B.step p a) w ≡ run B x w = ap (λ z. run B z w) (steps p a) in (
+      let e : run B (B.step p a) w ≡ run B x w = ap (λ z. run B z w) (steps p a l) in (
         subst (λ z. z < m) (sym e) y.0,
         subst (λ z. Equivalent A (run A (A.step (o p) a) w) (o z)) (sym e) (λ v j. equivalent_run A (A.step (o p) a) (o x) w word (h.follows p a k (done p a l k)) v j ∙ y.1 v j),
       )
@@ -37,16 +37,16 @@ module _ (A : Automaton) (narrow : A.labels ≤ 16) (o : ℕ → ℕ) (m : ℕ) 
   reach zero v l k = absurd (omega arith)
   reach (suc fuel) v l k = cases (ℕ_discrete v 0) (reach fuel)
     where
-      later : (y : Origin A T n v) → Reaches B B.start y.row → Reaches B B.start v
-      later y r = record {
+      later : (y : Origin A T n v) → y.row < m → Reaches B B.start y.row → Reaches B B.start v
+      later y i r = record {
         by = r.by ++ y.label ∷ [];
         word = word_append B.labels r.by (y.label ∷ []) r.word (omega (arith, y.below, labels), tt);
-        leads = run_append B B.start r.by (y.label ∷ []) ∙ ap (λ z. B.step z y.label) r.leads ∙ steps y.row y.label ∙ y.is;
+        leads = run_append B B.start r.by (y.label ∷ []) ∙ ap (λ z. B.step z y.label) r.leads ∙ steps y.row y.label i ∙ y.is;
       }
 
       cases : Dec (v ≡ 0) → ((u : ℕ) → u < fuel → u < m → Reaches B B.start u) → Reaches B B.start v
       cases (yes e) before = record { by = []; word = tt; leads = start ∙ sym e }
-      cases (no e) before = let y = h.origin v (omega arith) k in later y.0 (before y.0.row (omega (arith, y.1)) (omega (arith, y.1)))
+      cases (no e) before = let y = h.origin v (omega arith) k in later y.0 (omega (arith, y.1)) (before y.0.row (omega (arith, y.1)) (omega (arith, y.1)))
 
   word_back : (w : List ℕ) → Word A.labels w → Word B.labels w
   word_back w = subst (λ z. Word z w) (sym labels)
@@ -74,26 +74,26 @@ module _ (A : Automaton) (narrow : A.labels ≤ 16) (o : ℕ → ℕ) (m : ℕ) 
   met_some (suc p) = omega (arith, met_some p, row_grows (B.step p) (rows p) B.labels)
 
   -- a number that stands before a place is met there
-  met_before : (p a v : ℕ) → a < A.labels → (y : Origin A T (16 * p + a) v) → Dec (y.row < p) → v < places p a
-  met_before p a v l y (yes e) =
+  met_before : (p a v : ℕ) → p < m → a < A.labels → (y : Origin A T (16 * p + a) v) → Dec (y.row < p) → v < places p a
+  met_before p a v k l y (yes e) =
       let there : T y.row y.label ≡ v = y.is in
-      omega (arith, there, steps y.row y.label, rows_meet B.labels B.step p y.row y.label e (omega (arith, y.below, labels)), row_grows (B.step p) (rows p) a)
-  met_before p a v l y (no e) =
+      omega (arith, there, steps y.row y.label (omega arith), rows_meet B.labels B.step p y.row y.label e (omega (arith, y.below, labels)), row_grows (B.step p) (rows p) a)
+  met_before p a v k l y (no e) =
       let here : y.row ≡ p = omega (arith, y.before, y.below) in
-      let there : B.step p y.label ≡ v = sym (ap (λ z. B.step z y.label) here) ∙ steps y.row y.label ∙ y.is in
+      let there : B.step p y.label ≡ v = sym (ap (λ z. B.step z y.label) here) ∙ steps y.row y.label (omega arith) ∙ y.is in
       omega (arith, there, row_meets (B.step p) (rows p) a y.label (omega (arith, y.before, y.below)))
 
   next : (p a : ℕ) → p < m → a < A.labels → Dec (B.step p a ≤ 1) → B.step p a ≤ places p a
   next p a l k (yes e) = omega (arith, met_some p, row_grows (B.step p) (rows p) a)
   next p a l k (no e) =
       let v : ℕ = B.step p a - 1 in
-      let y : Origin A T (16 * p + a) v = h.met p a v k (done p a l k) (omega arith) (omega (arith, steps p a)) in
-      omega (arith, met_before p a v k y (dec_lt y.row p))
+      let y : Origin A T (16 * p + a) v = h.met p a v k (done p a l k) (omega arith) (omega (arith, steps p a l)) in
+      omega (arith, met_before p a v l k y (dec_lt y.row p))
 
   -- no number past the states is met
   row_low : (l p a : ℕ) → l ≤ m → p < m → a ≤ A.labels → met_in_row (B.step p) l a ≤ m
   row_low l p zero u k j = u
-  row_low l p (suc a) u k j = omega (arith, row_low l p a u k (omega arith), steps p a, h.inside p a (omega arith) (done p a k (omega arith)))
+  row_low l p (suc a) u k j = omega (arith, row_low l p a u k (omega arith), steps p a k, h.inside p a (omega arith) (done p a k (omega arith)))
 
   met_low : (p : ℕ) → p ≤ m → rows p ≤ m
   met_low zero k = omega (arith, h.some)
@@ -105,7 +105,7 @@ module _ (A : Automaton) (narrow : A.labels ≤ 16) (o : ℕ → ℕ) (m : ℕ) 
   met_high (no e) =
       let y = h.origin (m - 1) (omega arith) (omega arith) in
       let there : T y.0.row y.0.label ≡ m - 1 = y.0.is in
-      omega (arith, there, steps y.0.row y.0.label, rows_meet B.labels B.step m y.0.row y.0.label (omega (arith, y.1)) (omega (arith, y.0.below, labels)))
+      omega (arith, there, steps y.0.row y.0.label (omega (arith, y.1)), rows_meet B.labels B.step m y.0.row y.0.label (omega (arith, y.1)) (omega (arith, y.0.below, labels)))
 
   all_met : rows m ≡ m
   all_met = omega (arith, met_low m (omega arith), met_high (dec_le m 1))

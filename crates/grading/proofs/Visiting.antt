@@ -1,10 +1,11 @@
 -- Visits of one pair, of none, and of some after others.
-use Rattle.std.proofs.Common.{◌≡◌, ℕ, ◌+◌, ◌<◌, Bool, true, false, ◌⊎◌, ◌↔◌, length, sym, refl, ap, ◌∙◌, subst, inl, inr, ⊎_elim, arith, length-set}
+use Rattle.std.proofs.Common.{◌≡◌, ℕ, ◌+◌, ◌<◌, Ok, Err, Result, ◌⊎◌, ◌↔◌, length, sym, refl, ap, ◌∙◌, subst, inl, inr, ⊎_elim, arith, length-set}
 use native.Mathlib.Decide.{ℕ_discrete}
 use Rattle.base.specs.Stacks.{used, Stored, Pushes}
 use Rattle.grading.specs.Pairing.{Adds}
 use Rattle.grading.specs.StateSets.{In, Taken}
 use Rattle.grading.specs.Worklists.{Found, pair, Room, Visits, Among, Below}
+use Rattle.grading.specs.declared.products.Pair.{Pair}
 use Rattle.grading.specs.declared.states.StateSet.{StateSet}
 use Rattle.grading.specs.declared.worklist.Worklist.{Worklist}
 use Rattle.grading.proofs.Stored.{push_kept, push_new, push_only}
@@ -25,9 +26,9 @@ module _ (s t : Worklist) (p q : ℕ) (l : p < 32) (k : q < 32) (adds : Adds s.f
     size = ap length h.places ∙ length-set s.waiting.places.now (used s.waiting) (pair p q);
   }
 
-  pub visits_new : (r : Bool) → Pushes s.waiting (pair p q) t.waiting r → Visits (One p q) s t
-  visits_new true h = stored h
-  visits_new false (full, _) = absurd (omega (arith, adds.fewer new, room, full))
+  pub visits_new : (r : Result (Unit {0}) Pair) → Pushes s.waiting (pair p q) t.waiting r → Visits (One p q) s t
+  visits_new (Ok _) h = stored h
+  visits_new (Err _) (full, _, _) = absurd (omega (arith, adds.fewer new, room, full))
 
 module _ (P : ℕ → ℕ → Type 0) where
   -- all that is wanted was found before

@@ -1,7 +1,9 @@
 -- A table under construction: what its numbers stand for, and which of its targets are written.
-use Rattle.std.specs.Prelude.{◌≡◌, ℕ, ◌+◌, ◌*◌, ◌<◌, ◌≤◌, ◌⊎◌, [], length, slice_index, slice_index_or, slice_set}
+use Rattle.std.specs.Prelude.{◌≡◌, ℕ, ◌+◌, ◌*◌, ◌<◌, ◌≤◌, ◌⊎◌, List, [], length, slice_index, slice_index_or, slice_set}
 use Rattle.automata.specs.Automata.{Automaton}
 use Rattle.automata.specs.States.{Differ, Equivalent}
+use Rattle.base.specs.Rows.{row}
+use Rattle.base.specs.declared.table.Row.{Row}
 use Rattle.grading.specs.Pairing.{Has}
 use Rattle.grading.specs.declared.draft.Draft.{Draft}
 use Rattle.grading.specs.declared.pairs.Pairs.{Pairs}
@@ -13,6 +15,10 @@ olds d k = slice_index d.old k
 -- the number that stands at a number and a label
 abbrev pub target : Draft → ℕ → ℕ → ℕ
 target d p a = slice_index (slice_index_or d.targets p []) a
+
+-- the rows of the numbers have their targets, and yes or no as their old states do
+abbrev pub RowsOf : Automaton → Draft → List Row → Type 0
+RowsOf A d rows = (k : ℕ) → k < d.count → ((row rows k).targets ≡ slice_index_or d.targets k []) × ((row rows k).accepts ≡ A.yes (olds d k))
 
 -- an old state t finds its number, or has room for a new one
 pub record Free (differ : Pairs) (d : Draft) (t : ℕ) : Type 0 where

@@ -1,6 +1,7 @@
 -- The labels of a word.
-use Rattle.std.specs.Prelude.{ℕ, List, take}
+use Rattle.std.specs.Prelude.{ℕ, List}
+use Rattle.text.specs.Lists.{items}
 use Rattle.grading.specs.declared.word.Word.{Word}
 
 abbrev pub labels_of : Word → List ℕ
-labels_of w = take w.len w.places
+labels_of w = items w.list

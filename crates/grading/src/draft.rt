@@ -1,12 +1,12 @@
 //! A table under construction, its states numbered as they are met.
 ghost use Rattle.std.specs.Prelude.{◌≡◌, ℕ, ◌+◌, ◌*◌, ◌<◌, ◌≤◌, false, slice_index_or};
 ghost use Rattle.base.specs.Tables.{automaton};
-ghost use Rattle.grading.specs.Drafts.{olds, Free, Named, Drafted};
+ghost use Rattle.grading.specs.Drafts.{olds, Free, Named, Drafted, RowsOf};
 
 use crate::differing::Differing;
 use crate::reading::{says_yes, step};
 use crate::tabulate::tabulate;
-use base::table::Table;
+use base::table::{Row, Table};
 
 /// For each number the old state that it stands for, and its targets.
 #[derive(Clone, Copy)]
@@ -45,15 +45,22 @@ impl Draft {
         }
     }
 
-    /// Which numbers stand for yes states.
-    pub fn accepting(&self, table: &Table) -> [bool; 32]
+    /// The rows of the numbers: their targets, and yes or no as their old states have it.
+    pub fn rows(&self, table: &Table) -> [Row; 32]
         requires { (self.now.count ≤ 32) × (((k : ℕ) → k < self.now.count → olds self.now k < (automaton table.now).states)) }
-        ensures { (k : ℕ) → k < self.entry.now.count → slice_index_or result k false ≡ (automaton table.now).yes (olds self.entry.now k) }
+        ensures { RowsOf (automaton table.now) self.now result }
     {
+        let blank = Row {
+            targets: [0; 16],
+            accepts: false,
+        };
         tabulate(
             self.count,
-            false,
-            |number| says_yes(table, self.old[number as usize]),
+            blank,
+            |number| Row {
+                targets: self.targets[number as usize],
+                accepts: says_yes(table, self.old[number as usize]),
+            },
         )
     }
 }

@@ -25,8 +25,7 @@ pub fn minimise(table: &Table) -> Table
         draft.write_row(&differ, number);
         number += 1;
     }
-    let accepting = draft.accepting(table);
-    match Table::new(table.labels(), draft.count, 0, draft.targets, accepting) {
+    match Table::new(table.labels(), draft.count, 0, draft.rows(table)) {
         Ok(minimal) => minimal,
         Err(_) => unreachable(),
     }

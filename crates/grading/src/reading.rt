@@ -10,7 +10,7 @@ pub fn step(table: &Table, state: u8, label: u8) -> u8
     requires { (state < (automaton table.now).states) × (label < (automaton table.now).labels) }
     ensures { result ≡ (automaton table.now).step state label }
 {
-    table.targets[state as usize][label as usize]
+    table.rows[state as usize].targets[label as usize]
 }
 
 /// Where the label leads both states.
@@ -29,5 +29,5 @@ pub fn says_yes(table: &Table, state: u8) -> bool
     requires { state < (automaton table.now).states }
     ensures { result ≡ (automaton table.now).yes state }
 {
-    table.accepting[state as usize]
+    table.rows[state as usize].accepts
 }

@@ -1,12 +1,37 @@
 //! Lists of labels.
-ghost use Rattle.std.specs.Prelude.{◌≤◌};
+use text::list::ArrayList;
 
-pub mod labels;
-
-/// At most 1,024 labels, at the first places of the array; the places past them mean nothing.
+/// At most 1,024 labels.
 #[derive(Clone, Copy)]
 pub struct Word {
-    places: [u8; 1024],
-    len: u16,
-    ghost fits: { len ≤ 1024 },
+    list: ArrayList<u8, 1024>,
+}
+
+impl Word {
+    ghost use Rattle.std.specs.Prelude.{◌≡◌, ◌<◌, [], ◌∷◌, ◌++◌, length};
+    ghost use Rattle.grading.specs.Words.{labels_of};
+
+    /// The labels, from the first on.
+    pub fn labels(&self) -> &[u8]
+        ensures { result.now ≡ labels_of self.now }
+    {
+        self.list.as_slice()
+    }
+
+    // The list without a label.
+    pub(crate) fn empty() -> Word
+        ensures { labels_of result ≡ [] }
+    {
+        Word {
+            list: ArrayList::empty(0),
+        }
+    }
+
+    // Puts one label more at the end.
+    pub(crate) fn push(&mut self, label: u8)
+        requires { length (labels_of self.old) < 1024 }
+        ensures { labels_of self.new ≡ labels_of self.old ++ label ∷ [] }
+    {
+        let _ = self.list.push(label);
+    }
 }

@@ -8,11 +8,9 @@ use crate::facts::Facts;
 use crate::minimise::minimise;
 use crate::reading::{says_yes, step};
 use crate::registerless::RegisterlessSelector;
-use base::selector::Selector;
+use base::selector::{MAX_LEVELS, Selector};
 use base::table::Table;
 use text::refusal::Refusal;
-
-const MOST_LEVELS: u32 = 65_535;
 
 impl RegisterlessSelector {
     /// Runs the minimal table of the query from its start; refuses a table that is not registerless (13).
@@ -44,7 +42,7 @@ impl Selector for RegisterlessSelector {
     }
 
     fn carry(&self) -> u32 {
-        MOST_LEVELS
+        u32::from(MAX_LEVELS)
     }
 
     fn renew(&mut self) {

@@ -14,11 +14,9 @@ use crate::minimise::minimise;
 use crate::notes::{Note, Notes};
 use crate::reading::{says_yes, step};
 use crate::stackless::StacklessSelector;
-use base::selector::Selector;
+use base::selector::{MAX_LEVELS, Selector};
 use base::table::Table;
 use text::refusal::Refusal;
-
-const MOST_LEVELS: u16 = 65_535;
 
 impl StacklessSelector {
     /// Runs the minimal table of the query; refuses a query that is graded neither (14).
@@ -77,7 +75,7 @@ impl Selector for StacklessSelector {
     }
 
     fn carry(&self) -> u32 {
-        u32::from(MOST_LEVELS)
+        u32::from(MAX_LEVELS)
     }
 
     fn renew(&mut self) {
@@ -87,7 +85,7 @@ impl Selector for StacklessSelector {
     }
 
     fn open(&mut self, label: u8) -> bool {
-        if label >= self.table.labels() || self.depth == MOST_LEVELS {
+        if label >= self.table.labels() || self.depth == MAX_LEVELS {
             return false;
         }
         let target = step(&self.table, self.state, label);

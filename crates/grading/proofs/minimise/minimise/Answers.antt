@@ -12,7 +12,7 @@ loop-number-init c = drafted_begun c.args.table.now (record { count = 1; old = r
 
 pub unreachable-requires : goal.unreachable-requires
 unreachable-requires c =
-    let none = not_refused c.args.table.now c.loop-number.draft (16 * c.loop-number.number) c.loop-number.invariant (omega arith) c.labels.result c.labels.ensures c.accepting-accepting.result in
+    let none = not_refused c.args.table.now c.loop-number.draft (16 * c.loop-number.number) c.loop-number.invariant (omega arith) c.labels.result c.labels.ensures c.rows.result c.rows.ensures in
     let some = c.in-Err.ensures in
     let z : ◌≡◌ {A = ℕ} 0 1 = cc in
     omega arith
@@ -21,5 +21,5 @@ pub returns : goal.returns
 returns c =
     let t = c.args.table.now in
     let u = c.in-Ok.minimal in
-    let m = made t c.loop-number.draft (16 * c.loop-number.number) c.loop-number.invariant (omega arith) c.labels.result c.labels.ensures c.accepting-accepting.result c.accepting-accepting.ensures u c.in-Ok.ensures.1 in
+    let m = made t c.loop-number.draft (16 * c.loop-number.number) c.loop-number.invariant (omega arith) c.labels.result c.labels.ensures c.rows.result c.rows.ensures u c.in-Ok.ensures.1 in
     record { minimised = m; only = only_minimised (automaton t) (automaton u) (well_formed u) m }
