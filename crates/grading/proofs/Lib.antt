@@ -4,7 +4,6 @@ pub mod Cells
 pub mod Tabulated
 pub mod Indexing
 pub mod Blanks
-pub mod Marking
 pub mod Rounds
 pub mod Measured
 pub mod Walking
@@ -24,6 +23,5 @@ pub mod Making
 pub mod Counting
 pub mod Retracing
 pub mod Settling
-pub mod Noted
 pub mod Chained
 pub mod Showing

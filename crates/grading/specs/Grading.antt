@@ -1,4 +1,5 @@
 -- What each grade says of an automaton, and what it settles for machines.
+use Rattle.std.specs.Prelude.{ℕ, List, codes}
 use Rattle.automata.specs.Automata.{Automaton}
 use Rattle.automata.specs.Grades.{Registerless as NeedsNoRegister, Clash, Stackless as NeedsNoStack, Knot}
 use Rattle.automata.specs.Machines.{NoMachineServes, MachineServes}
@@ -16,3 +17,9 @@ abbrev pub Settles : Automaton → Grade → Type 0
 Settles A Registerless = MachineServes A
 Settles A Stackless = NoMachineServes A
 Settles A Neither = NoMachineServes A
+
+-- the word for the grade
+abbrev pub name : Grade → List ℕ
+name Registerless = codes "registerless"
+name Stackless = codes "stackless"
+name Neither = codes "neither"

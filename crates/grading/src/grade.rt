@@ -1,20 +1,34 @@
 //! The grade of a table.
+ghost use Rattle.std.specs.Prelude.{Some};
 ghost use Rattle.automata.specs.Components.{Components};
 ghost use Rattle.automata.specs.Minimising.{Minimised};
 ghost use Rattle.base.specs.Tables.{automaton};
-ghost use Rattle.grading.specs.Grading.{Earns, Settles};
+ghost use Rattle.grading.specs.Grading.{Earns, Settles, name};
 
 use crate::facts::Facts;
 use crate::minimise::minimise;
 use base::table::Table;
+use std::fmt;
 
 /// Registerless: no two internal states that meet are apart. Stackless: some are, but none that meet within one component.
 /// Neither: some that meet within one component are apart too.
-#[derive(Clone, Copy, PartialEq, Eq)]
+#[derive(Clone, Copy, PartialEq, Eq, Debug)]
 pub enum Grade {
     Registerless,
     Stackless,
     Neither,
+}
+
+impl fmt::Display for Grade {
+    ghost output = { λ grade. Some (name grade) };
+
+    fn fmt<W: fmt::Write>(&self, f: &mut fmt::Formatter<W>) -> fmt::Result {
+        f.write_str(match self {
+            Grade::Registerless => "registerless",
+            Grade::Stackless => "stackless",
+            Grade::Neither => "neither",
+        })
+    }
 }
 
 /// A minimal table, its grade, and how many components it has.
