@@ -9,7 +9,7 @@ use Rattle.base.specs.Rows.{no_row, row, target, each_below, rows_each_below}
 use Rattle.base.specs.Tables.{automaton, Parts, Has, parts_refusal}
 use Rattle.base.specs.declared.table.Row.{Row}
 use Rattle.base.specs.declared.table.Table.{Table}
-use Rattle.grading.specs.Drafts.{olds, target as placed, Drafted, RowsOf}
+use Rattle.grading.specs.Drafts.{olds, count, target as placed, Drafted, RowsOf}
 use Rattle.grading.specs.declared.draft.Draft.{Draft}
 use Rattle.grading.proofs.Finishing.{minimised}
 
@@ -22,19 +22,19 @@ all_from test d (suc n) (x ∷ xs) h = and_from (test x) (list_all test (take n 
 rows_from : (labels states : ℕ) (rows : List Row) → ((p a : ℕ) → p < states → a < labels → target rows p a < states) → rows_each_below labels states (take states rows) ≡ true
 rows_from labels states rows h = all_from (λ r. each_below states (take labels r.targets)) no_row states rows (λ p l. all_from (λ x. ltb x states) 0 labels (row rows p).targets (λ a k. lt-ltb (target rows p a) states (h p a l k)))
 
--- the parts of the draft, with l labels
-abbrev pub parts : ℕ → Draft → List Row → Parts
-parts l d rows = record { labels = l; states = d.count; start = 0; rows = rows }
+-- the parts of m numbers, with l labels
+abbrev pub parts : ℕ → ℕ → List Row → Parts
+parts l m rows = record { labels = l; states = m; start = 0; rows = rows }
 
-module _ (t : Table) (d : Draft) (n : ℕ) (h : Drafted (automaton t) d n) (whole : 16 * d.count ≤ n) (l : ℕ) (labels : l ≡ t.labels) (rows : List Row) (of : RowsOf (automaton t) d rows) where
-  steps : (p a : ℕ) → p < d.count → target rows p a ≡ placed d p a
+module _ (t : Table) (d : Draft) (n : ℕ) (h : Drafted (automaton t) d n) (whole : 16 * (count d) ≤ n) (l m : ℕ) (labels : l ≡ t.labels) (numbers : m ≡ count d) (rows : List Row) (of : RowsOf (automaton t) d rows) where
+  steps : (p a : ℕ) → p < (count d) → target rows p a ≡ placed d p a
   steps p a i = ap (λ xs. get_or xs a 0) (of p i).0
 
-  pub not_refused : parts_refusal (parts l d rows) ≡ None
+  pub not_refused : parts_refusal (parts l m rows) ≡ None
   not_refused =
       cond-false (not (leb 1 l && leb l 16)) (Some NameCount) _ (not_from_true _ (and_from _ _ (le-leb 1 l (omega (arith, labels, t.sized.0))) (le-leb l 16 (omega (arith, labels, t.sized.1)))))
-      ∙ cond-false (not (leb 1 d.count && (leb d.count 32 && ltb 0 d.count))) (Some StatesLine) _ (not_from_true _ (and_from _ _ (le-leb 1 d.count h.building.some) (and_from _ _ (le-leb d.count 32 h.fits) (lt-ltb 0 d.count h.building.some))))
-      ∙ cond-false (not (rows_each_below l d.count (take d.count rows))) (Some Refusal.Row) None (not_from_true _ (rows_from l d.count rows (λ p a i k. omega (arith, steps p a i, h.building.inside p a (omega (arith, labels)) (omega (arith, labels, t.sized.1))))))
+      ∙ cond-false (not (leb 1 m && (leb m 32 && ltb 0 m))) (Some StatesLine) _ (not_from_true _ (and_from _ _ (le-leb 1 m (omega (arith, numbers, h.building.some))) (and_from _ _ (le-leb m 32 (omega (arith, numbers, h.fits))) (lt-ltb 0 m (omega (arith, numbers, h.building.some))))))
+      ∙ cond-false (not (rows_each_below l m (take m rows))) (Some Refusal.Row) None (not_from_true _ (rows_from l m rows (λ p a i k. omega (arith, numbers, steps p a (omega arith), h.building.inside p a (omega (arith, labels)) (omega (arith, labels, t.sized.1))))))
 
-  pub made : (u : Table) → Has (parts l d rows) u → Minimised (automaton t) (automaton u)
-  made u has = minimised (automaton t) t.sized.1 (olds d) d.count (placed d) n h.building whole (automaton u) (has.labels ∙ labels) has.states has.start (λ r b i. ap (λ rows. target rows r b) has.rows ∙ steps r b i) (λ k i. ap (λ rows. (row rows k).accepts) has.rows ∙ (of k i).1)
+  pub made : (u : Table) → Has (parts l m rows) u → Minimised (automaton t) (automaton u)
+  made u has = minimised (automaton t) t.sized.1 (olds d) (count d) (placed d) n h.building whole (automaton u) (has.labels ∙ labels) (has.states ∙ numbers) has.start (λ r b i. ap (λ rows. target rows r b) has.rows ∙ steps r b i) (λ k i. ap (λ rows. (row rows k).accepts) has.rows ∙ (of k i).1)

@@ -1,7 +1,8 @@
 -- A table under construction: what its numbers stand for, and which of its targets are written.
-use Rattle.std.specs.Prelude.{◌≡◌, ℕ, ◌+◌, ◌*◌, ◌<◌, ◌≤◌, ◌⊎◌, List, [], length, slice_index, slice_index_or, slice_set}
+use Rattle.std.specs.Prelude.{◌≡◌, ℕ, ◌+◌, ◌*◌, ◌<◌, ◌≤◌, ◌⊎◌, List, [], ◌∷◌, ◌++◌, length, slice_index, slice_index_or}
 use Rattle.automata.specs.Automata.{Automaton}
 use Rattle.automata.specs.States.{Differ, Equivalent}
+use Rattle.text.specs.Lists.{items}
 use Rattle.base.specs.Rows.{row}
 use Rattle.base.specs.declared.table.Row.{Row}
 use Rattle.grading.specs.Pairing.{Has}
@@ -10,7 +11,11 @@ use Rattle.grading.specs.declared.pairs.Pairs.{Pairs}
 
 -- the old state that a number stands for
 abbrev pub olds : Draft → ℕ → ℕ
-olds d k = slice_index d.old k
+olds d k = slice_index (items d.old) k
+
+-- how many numbers there are
+abbrev pub count : Draft → ℕ
+count d = length (items d.old)
 
 -- the number that stands at a number and a label
 abbrev pub target : Draft → ℕ → ℕ → ℕ
@@ -18,27 +23,26 @@ target d p a = slice_index (slice_index_or d.targets p []) a
 
 -- the rows of the numbers have their targets, and yes or no as their old states do
 abbrev pub RowsOf : Automaton → Draft → List Row → Type 0
-RowsOf A d rows = (k : ℕ) → k < d.count → ((row rows k).targets ≡ slice_index_or d.targets k []) × ((row rows k).accepts ≡ A.yes (olds d k))
+RowsOf A d rows = (k : ℕ) → k < count d → ((row rows k).targets ≡ slice_index_or d.targets k []) × ((row rows k).accepts ≡ A.yes (olds d k))
 
 -- an old state t finds its number, or has room for a new one
 pub record Free (differ : Pairs) (d : Draft) (t : ℕ) : Type 0 where
-  pub fits : d.count ≤ 32
-  pub below : (j : ℕ) → j < d.count → olds d j < 32
-  pub room : ((j : ℕ) → j < d.count → Has differ (olds d j) t) → d.count < 32
+  pub fits : count d ≤ 32
+  pub below : (j : ℕ) → j < count d → olds d j < 32
+  pub room : ((j : ℕ) → j < count d → Has differ (olds d j) t) → count d < 32
 
 -- r is a number for a state like t, and the draft stays
 pub record Had (differ : Pairs) (d : Draft) (t r : ℕ) (e : Draft) : Type 0 where
   pub same : e ≡ d
-  pub below : r < d.count
+  pub below : r < count d
   pub alike : ¬ Has differ (olds d r) t
 
 -- r is a new number, for t itself
 pub record Added (differ : Pairs) (d : Draft) (t r : ℕ) (e : Draft) : Type 0 where
-  pub old : e.old ≡ slice_set d.old d.count t
-  pub count : e.count ≡ d.count + 1
+  pub old : items e.old ≡ items d.old ++ t ∷ []
   pub targets : e.targets ≡ d.targets
-  pub last : r ≡ d.count
-  pub fresh : (j : ℕ) → j < d.count → Has differ (olds d j) t
+  pub last : r ≡ count d
+  pub fresh : (j : ℕ) → j < count d → Has differ (olds d j) t
 
 -- what asking for the number of t does
 abbrev pub Named : Pairs → Draft → ℕ → ℕ → Draft → Type 0
@@ -64,8 +68,7 @@ pub record Building (A : Automaton) (o : ℕ → ℕ) (m : ℕ) (T : ℕ → ℕ
   pub met : (r b v : ℕ) → b < A.labels → 16 * r + b < n → 0 < v → v < T r b → Origin A T (16 * r + b) v
   pub origin : (v : ℕ) → 0 < v → v < m → (x : Origin A T n v) × (x.row < v)
 
--- the draft is built so far, and has no more numbers than places
+-- the draft is built so far, and has no more numbers than a table has states
 pub record Drafted (A : Automaton) (d : Draft) (n : ℕ) : Type 0 where
-  pub building : Building A (olds d) d.count (target d) n
-  pub fits : d.count ≤ 32
-  pub size : length d.old ≡ 32
+  pub building : Building A (olds d) (count d) (target d) n
+  pub fits : count d ≤ 32

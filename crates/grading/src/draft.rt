@@ -1,45 +1,72 @@
 //! A table under construction, its states numbered as they are met.
-ghost use Rattle.std.specs.Prelude.{◌≡◌, ℕ, ◌+◌, ◌*◌, ◌<◌, ◌≤◌, false, slice_index_or};
+ghost use Rattle.std.specs.Prelude.{◌≡◌, ℕ, ◌+◌, ◌*◌, ◌<◌, ◌≤◌, [], ◌∷◌};
+ghost use Rattle.text.specs.Lists.{items};
 ghost use Rattle.base.specs.Tables.{automaton};
-ghost use Rattle.grading.specs.Drafts.{olds, Free, Named, Drafted, RowsOf};
+ghost use Rattle.grading.specs.Drafts.{olds, count, Free, Named, Drafted, RowsOf};
 
 use crate::differing::Differing;
 use crate::reading::{says_yes, step};
 use crate::tabulate::tabulate;
 use base::table::{Row, Table};
+use text::list::ArrayList;
 
 /// For each number the old state that it stands for, and its targets.
 #[derive(Clone, Copy)]
 pub struct Draft {
-    pub count: u8,
-    pub old: [u8; 32],
+    pub old: ArrayList<u8, 32>,
     pub targets: [[u8; 16]; 32],
 }
 
 impl Draft {
+    /// The start alone has a number, and no target is written.
+    pub fn begun(start: u8) -> Draft
+        ensures { items result.old ≡ start ∷ [] }
+    {
+        let mut old = ArrayList::empty(0);
+        let _ = old.push(start);
+        Draft {
+            old,
+            targets: [[0; 16]; 32],
+        }
+    }
+
+    /// How many numbers there are.
+    pub fn count(&self) -> u8
+        ensures { result ≡ count self.now }
+    {
+        self.old.len() as u8
+    }
+
+    // The old state that the number stands for.
+    fn state(&self, number: u8) -> u8
+        requires { number < count self.now }
+        ensures { result ≡ olds self.now number }
+    {
+        self.old.as_slice()[number as usize]
+    }
+
     // The number of the old state, or of one like it; a new number where there is none.
     fn name(&mut self, differ: &Differing, state: u8) -> u8
         requires { (state < 32) × (Free differ.now.pairs self.now state) }
         ensures { Named differ.now.pairs self.entry.now state result self.exit.now }
     {
-        for number in 0..self.count {
-            if !differ.pairs.has(self.old[number as usize], state) {
+        let last = self.count();
+        for number in 0..last {
+            if !differ.pairs.has(self.state(number), state) {
                 return number;
             }
         }
-        let last = self.count;
-        self.old[last as usize] = state;
-        self.count += 1;
+        let _ = self.old.push(state);
         last
     }
 
     /// Writes the targets of one number.
     pub fn write_row(&mut self, differ: &Differing, number: u8)
-        requires { (number < self.now.count) × (Drafted (automaton differ.now.table.now) self.now (16 * number)) }
+        requires { (number < count self.now) × (Drafted (automaton differ.now.table.now) self.now (16 * number)) }
         ensures { Drafted (automaton differ.now.table.now) self.exit.now (16 * (number + 1)) }
     {
         for label in 0..differ.table.labels() {
-            let target = step(differ.table, self.old[number as usize], label);
+            let target = step(differ.table, self.state(number), label);
             let name = self.name(differ, target);
             self.targets[number as usize][label as usize] = name;
         }
@@ -47,7 +74,7 @@ impl Draft {
 
     /// The rows of the numbers: their targets, and yes or no as their old states have it.
     pub fn rows(&self, table: &Table) -> [Row; 32]
-        requires { (self.now.count ≤ 32) × (((k : ℕ) → k < self.now.count → olds self.now k < (automaton table.now).states)) }
+        requires { (count self.now ≤ 32) × (((k : ℕ) → k < count self.now → olds self.now k < (automaton table.now).states)) }
         ensures { RowsOf (automaton table.now) self.now result }
     {
         let blank = Row {
@@ -55,11 +82,11 @@ impl Draft {
             accepts: false,
         };
         tabulate(
-            self.count,
+            self.count(),
             blank,
             |number| Row {
                 targets: self.targets[number as usize],
-                accepts: says_yes(table, self.old[number as usize]),
+                accepts: says_yes(table, self.state(number)),
             },
         )
     }

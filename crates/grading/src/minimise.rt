@@ -15,17 +15,13 @@ pub fn minimise(table: &Table) -> Table
 {
     let before = Predecessors::of(table);
     let differ = Differing::of(&before);
-    let mut draft = Draft {
-        count: 1,
-        old: [table.start(); 32],
-        targets: [[0; 16]; 32],
-    };
+    let mut draft = Draft::begun(table.start());
     let mut number = 0;
-    while number < draft.count {
+    while number < draft.count() {
         draft.write_row(&differ, number);
         number += 1;
     }
-    match Table::new(table.labels(), draft.count, 0, draft.rows(table)) {
+    match Table::new(table.labels(), draft.count(), 0, draft.rows(table)) {
         Ok(minimal) => minimal,
         Err(_) => unreachable(),
     }
