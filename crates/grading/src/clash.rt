@@ -8,8 +8,8 @@ ghost use Rattle.grading.specs.Showing.{LeadsTo, Shows};
 ghost use Rattle.grading.specs.Words.{labels_of};
 
 use crate::facts::Facts;
-use crate::products::Pair;
 use crate::seeds::{Same, Unlike, Within};
+use crate::state_pair::StatePair;
 use crate::states::StateSet;
 use crate::walk::shortest;
 use crate::word::Word;
@@ -29,12 +29,17 @@ pub struct Clash {
 pub fn clash_of(table: &Table) -> Option<Clash>
     ensures { MatchOption result (Registerless (automaton table.now)) (Shows (automaton table.now)) }
 {
-    let pair = Facts::of(table).lowest_clash()?;
+    let lowest = Facts::of(table).lowest_clash()?;
+    let pair = StatePair {
+        table,
+        first: lowest.first,
+        second: lowest.second,
+    };
     Some(Clash {
         first: word_to(table, pair.first),
         second: word_to(table, pair.second),
-        meet: shortest(table, &Same, pair),
-        apart: shortest(table, &Unlike::of(table), pair),
+        meet: shortest(&Same, pair),
+        apart: shortest(&Unlike::of(table), pair),
     })
 }
 
@@ -44,10 +49,11 @@ fn word_to(table: &Table, state: u8) -> Word
     ensures { Shortest (automaton table.now).labels (LeadsTo (automaton table.now) state) (labels_of result) }
 {
     let start = table.start();
-    let both = Pair {
+    let both = StatePair {
+        table,
         first: start,
         second: start,
     };
     let set = StateSet::only(state);
-    shortest(table, &Within { set }, both)
+    shortest(&Within { set }, both)
 }

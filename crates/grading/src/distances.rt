@@ -4,8 +4,8 @@ ghost use Rattle.base.specs.Tables.{automaton};
 ghost use Rattle.grading.specs.Measuring.{distance, distance_after, Marks, Near, Tries, Round, Measures};
 ghost use Rattle.grading.specs.StateSets.{In};
 
-use crate::products::{Pair, Seeds};
-use crate::reading::step_both;
+use crate::products::Seeds;
+use crate::state_pair::StatePair;
 use crate::states::StateSet;
 use crate::tabulate::tabulate;
 use base::table::Table;
@@ -38,35 +38,33 @@ impl Distances {
     }
 
     /// The distance of the pair, or `NONE`.
-    pub fn get(&self, pair: Pair) -> u16
-        requires { (pair.first < 32) × (pair.second < 32) }
-        ensures { result ≡ distance self.now pair.first pair.second }
+    pub fn get(&self, pair: StatePair) -> u16
+        ensures { result ≡ distance self.now pair.entry.first pair.entry.second }
     {
         self.steps[pair.first as usize][pair.second as usize]
     }
 
     /// The distance of the pair that the label leads both states to.
-    pub fn after(&self, table: &Table, pair: Pair, label: u8) -> u16
-        requires { (pair.first < (automaton table.now).states) × ((pair.second < (automaton table.now).states) × (label < (automaton table.now).labels)) }
-        ensures { result ≡ distance_after (automaton table.now) self.now pair.first pair.second label }
+    pub fn after(&self, pair: StatePair, label: u8) -> u16
+        requires { label < (automaton pair.table.now).labels }
+        ensures { result ≡ distance_after (automaton pair.entry.table.now) self.now pair.entry.first pair.entry.second label }
     {
-        self.get(step_both(table, pair, label))
+        self.get(pair.step(label))
     }
 
     // Whether some label leads both states to a pair at this distance.
-    fn is_near(&self, table: &Table, pair: Pair, steps: u16) -> bool
-        requires { (pair.first < (automaton table.now).states) × (pair.second < (automaton table.now).states) }
-        ensures { Decides result (Near (automaton table.now) steps self.now pair.first pair.second) }
+    fn is_near(&self, pair: StatePair, steps: u16) -> bool
+        ensures { Decides result (Near (automaton pair.entry.table.now) steps self.now pair.entry.first pair.entry.second) }
     {
-        (0..table.labels()).any(|label| self.after(table, pair, label) == steps)
+        (0..pair.table.labels()).any(|label| self.after(pair, label) == steps)
     }
 
     // Gives the pair the next distance, where it has none and a label leads it to a pair at this one.
-    fn measure(&mut self, table: &Table, pair: Pair, steps: u16)
-        requires { (pair.first < (automaton table.now).states) × ((pair.second < (automaton table.now).states) × (steps < 1024)) }
-        ensures { Tries (automaton table.now) steps self.old pair.first pair.second self.new }
+    fn measure(&mut self, pair: StatePair, steps: u16)
+        requires { steps < 1024 }
+        ensures { Tries (automaton pair.entry.table.now) steps self.old pair.entry.first pair.entry.second self.new }
     {
-        if self.get(pair) == NONE && self.is_near(table, pair, steps) {
+        if self.get(pair) == NONE && self.is_near(pair, steps) {
             self.steps[pair.first as usize][pair.second as usize] = steps + 1;
             self.most = steps + 1;
         }
@@ -78,7 +76,12 @@ impl Distances {
         ensures { Round (automaton table.now) steps (λ p _. p ≡ first) self.old self.new }
     {
         for second in 0..table.states() {
-            self.measure(table, Pair { first, second }, steps);
+            let pair = StatePair {
+                table,
+                first,
+                second,
+            };
+            self.measure(pair, steps);
         }
     }
 

@@ -23,6 +23,7 @@ mod relations;
 mod seeds;
 mod spread;
 pub mod stackless;
+mod state_pair;
 mod states;
 mod tabulate;
 mod walk;

@@ -2,7 +2,6 @@
 ghost use Rattle.std.specs.Prelude.{◌≡◌, ◌<◌};
 ghost use Rattle.base.specs.Tables.{automaton};
 
-use crate::products::Pair;
 use base::table::Table;
 
 /// Where the label leads from the state.
@@ -11,17 +10,6 @@ pub fn step(table: &Table, state: u8, label: u8) -> u8
     ensures { result ≡ (automaton table.now).step state label }
 {
     table.rows[state as usize].targets[label as usize]
-}
-
-/// Where the label leads both states.
-pub fn step_both(table: &Table, pair: Pair, label: u8) -> Pair
-    requires { (pair.first < (automaton table.now).states) × ((pair.second < (automaton table.now).states) × (label < (automaton table.now).labels)) }
-    ensures { (result.first ≡ (automaton table.now).step pair.first label) × (result.second ≡ (automaton table.now).step pair.second label) }
-{
-    Pair {
-        first: step(table, pair.first, label),
-        second: step(table, pair.second, label),
-    }
 }
 
 /// Whether the state is a yes state.

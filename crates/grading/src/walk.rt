@@ -6,24 +6,22 @@ ghost use Rattle.grading.specs.Walks.{Brings, Brought, Best};
 ghost use Rattle.grading.specs.Words.{labels_of};
 
 use crate::distances::Distances;
-use crate::products::{Pair, Seeds};
-use crate::reading::step_both;
+use crate::products::Seeds;
+use crate::state_pair::StatePair;
 use crate::word::Word;
-use base::table::Table;
 
 /// The shortest word of one label or more that leads both states to a wanted pair, and of those the first by its labels. Each
 /// label is the lowest of those that leave the least distance.
-pub fn shortest<S: Seeds>(table: &Table, seeds: &S, mut pair: Pair) -> Word
-    requires inside { (pair.first < (automaton table.now).states) × (pair.second < (automaton table.now).states) }
-    requires brought { Brought (automaton table.now) (S.wanted seeds.now) pair.first pair.second }
-    ensures { Shortest (automaton table.now).labels (Brings (automaton table.now) (S.wanted seeds.now) pair.first pair.second) (labels_of result) }
+pub fn shortest<S: Seeds>(seeds: &S, mut pair: StatePair) -> Word
+    requires { Brought (automaton pair.table.now) (S.wanted seeds.now) pair.first pair.second }
+    ensures { let A = automaton pair.entry.table.now in Shortest A.labels (Brings A (S.wanted seeds.now) pair.entry.first pair.entry.second) (labels_of result) }
 {
-    let distances = Distances::of(table, seeds);
+    let distances = Distances::of(pair.table, seeds);
     let mut word = Word::empty();
     loop {
-        let label = distances.best_label(table, pair);
+        let label = distances.best_label(pair);
         word.push(label);
-        pair = step_both(table, pair, label);
+        pair = pair.step(label);
         if distances.get(pair) == 0 {
             return word;
         }
@@ -32,13 +30,12 @@ pub fn shortest<S: Seeds>(table: &Table, seeds: &S, mut pair: Pair) -> Word
 
 impl Distances {
     // The lowest of the labels that lead both states to a pair at the least distance.
-    fn best_label(&self, table: &Table, pair: Pair) -> u8
-        requires { (pair.first < (automaton table.now).states) × (pair.second < (automaton table.now).states) }
-        ensures { Best (automaton table.now) self.now pair.first pair.second result }
+    fn best_label(&self, pair: StatePair) -> u8
+        ensures { Best (automaton pair.entry.table.now) self.now pair.entry.first pair.entry.second result }
     {
         let mut best = 0;
-        for label in 1..table.labels() {
-            if self.after(table, pair, label) < self.after(table, pair, best) {
+        for label in 1..pair.table.labels() {
+            if self.after(pair, label) < self.after(pair, best) {
                 best = label;
             }
         }

@@ -14,7 +14,7 @@ pub shortest-requires : goal.shortest-requires
 shortest-requires c =
     let t = c.args.table.now in
     let below : c.start-start.result < t.states = omega (arith, c.start-start.ensures, t.sized.4) in
-    (record { inside = (below, below); brought = leads_brought (automaton t) c.args.state c.only-set.result c.only-set.ensures c.start-start.result c.start-start.ensures c.requires })
+    (leads_brought (automaton t) c.args.state c.only-set.result c.only-set.ensures c.start-start.result c.start-start.ensures c.requires)
 
 pub returns : goal.returns
 returns c = leads_shortest (automaton c.args.table.now) c.args.state c.only-set.result c.only-set.ensures c.start-start.result c.start-start.ensures (labels_of c.shortest.result) c.shortest.ensures

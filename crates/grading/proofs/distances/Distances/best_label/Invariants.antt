@@ -5,4 +5,4 @@ use Rattle.grading.specs.Walks.{ArgMin}
 use Rattle.grading.proofs.distances.Distances.best_label.Given as goal
 
 abbrev pub invariant-loop-label : goal.invariant-loop-label
-invariant-loop-label l = ArgMin (distance_after (automaton l.table) l.self l.pair.first l.pair.second) l.label l.best
+invariant-loop-label l = ArgMin (distance_after (automaton l.pair.table.now) l.self l.pair.first l.pair.second) l.label l.best
