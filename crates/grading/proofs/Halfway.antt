@@ -3,21 +3,15 @@ use Rattle.std.proofs.Common.{◌≡◌, ℕ, ◌<◌, ◌⊎◌, length, sym, r
 use Rattle.base.specs.Stacks.{used, Taken}
 use Rattle.grading.specs.Pairing.{Has, blank, NoPairs}
 use Rattle.grading.specs.Spreading.{Comes, there, move, Spreads}
-use Rattle.grading.specs.Worklists.{Among, Found, Waits, pair, load, Room, Visits}
+use Rattle.grading.specs.Worklists.{Among, Found, Is, Waits, load, Room, Visits}
 use Rattle.grading.specs.declared.products.Pair.{Pair}
 use Rattle.grading.specs.declared.worklist.Worklist.{Worklist}
 use Rattle.grading.proofs.Stored.{pop_only, popped, pop_kept}
 
--- a pair that waits comes to a wanted one, and is of states below 32
-pub record Listed (n : ℕ) (goes : ℕ → ℕ → ℕ → ℕ → ℕ → Type 0) (wanted : ℕ → ℕ → Type 0) (p q : ℕ) : Type 0 where
-  pub comes : Comes n goes wanted p q
-  pub first : p < 32
-  pub second : q < 32
-
 -- each pair that is found comes to a wanted one, and waits unless its predecessors are found
 pub record Halfway (n : ℕ) (goes : ℕ → ℕ → ℕ → ℕ → ℕ → Type 0) (wanted : ℕ → ℕ → Type 0) (s : Worklist) : Type 0 where
   pub sound : (p q : ℕ) → Found s p q → Comes n goes wanted p q
-  pub listed : (p q : ℕ) → Waits s p q → Listed n goes wanted p q
+  pub listed : (p q : ℕ) → Waits s p q → Comes n goes wanted p q
   pub handled : (p q : ℕ) → Found s p q → Waits s p q ⊎ ((a r u : ℕ) → a < n → goes a r u p q → Found s r u)
   pub seeded : (p q : ℕ) → wanted p q → Found s p q
   pub room : Room s
@@ -26,7 +20,7 @@ module _ (n : ℕ) (goes : ℕ → ℕ → ℕ → ℕ → ℕ → Type 0) (want
   pub halfway_begun : (s t : Worklist) → NoPairs s.found → used s.waiting ≡ 0 → length s.waiting.places.now ≡ 1024 → Visits wanted s t → Halfway n goes wanted t
   halfway_begun s t none empty size v = record {
     sound = λ p q e. there (fresh p q (v.only p q e)).0;
-    listed = λ p q w. ⊎_elim (λ i. absurd (omega (arith, i.below, empty))) (λ (h, a, b). record { comes = there h; first = a; second = b }) (v.listed p q w);
+    listed = λ p q w. ⊎_elim (λ i. absurd (omega (arith, i.below, empty))) (λ h. there h) (v.listed p q w);
     handled = λ p q e. inl (fresh p q (v.only p q e)).1;
     seeded = v.all;
     room = omega (arith, v.load, v.size, none.blank);
@@ -38,8 +32,8 @@ module _ (n : ℕ) (goes : ℕ → ℕ → ℕ → ℕ → ℕ → Type 0) (want
 
   -- x is popped
   module _ (s t : Worklist) (x : Pair) (h : Halfway n goes wanted s) (same : t.found ≡ s.found) (taken : Taken s.waiting x t.waiting) where
-    pub top : Listed n goes wanted x.first x.second
-    top = h.listed x.first x.second (popped s t x taken x.first x.second refl)
+    top : Comes n goes wanted x.first x.second
+    top = h.listed x.first x.second (popped s t x taken x.first x.second (refl, refl))
 
     pub room_left : Room t
     room_left = omega (arith, h.room, ap blank same, taken.used, ap length taken.places)
@@ -54,14 +48,14 @@ module _ (n : ℕ) (goes : ℕ → ℕ → ℕ → ℕ → ℕ → Type 0) (want
     found_there p q = subst (λ f. Has f p q) (sym same)
 
     comes : (p q : ℕ) → Among n (λ a p q. goes a p q x.first x.second) p q → Comes n goes wanted p q
-    comes p q i = move i.below i.holds (top s t x h same taken).comes
+    comes p q i = move i.below i.holds (top s t x h same taken)
 
     abbrev Handled : ℕ → ℕ → Type 0
     Handled p q = Waits u p q ⊎ ((a r w : ℕ) → a < n → goes a r w p q → Found u r w)
 
-    left : (p q : ℕ) → Waits t p q ⊎ (x ≡ pair p q) → Handled p q
+    left : (p q : ℕ) → Waits t p q ⊎ Is x p q → Handled p q
     left p q (inl w) = inl (v.waits p q w)
-    left p q (inr e) = inr (subst (λ y. (a r w : ℕ) → a < n → goes a r w y.first y.second → Found u r w) e (λ a r w l k. v.all r w (record { number = a; below = l; holds = k })))
+    left p q (inr (e, f)) = inr (λ a r w l k. v.all r w (record { number = a; below = l; holds = subst (λ p. goes a r w p x.second) (sym e) (subst (goes a r w p) (sym f) k) }))
 
     before : (p q : ℕ) → Waits s p q ⊎ ((a r w : ℕ) → a < n → goes a r w p q → Found s r w) → Handled p q
     before p q (inl w) = left p q (pop_kept s t x taken p q w)
@@ -73,7 +67,7 @@ module _ (n : ℕ) (goes : ℕ → ℕ → ℕ → ℕ → ℕ → Type 0) (want
     pub halfway_more : Halfway n goes wanted u
     halfway_more = record {
       sound = λ p q e. ⊎_elim (λ f. h.sound p q (found_back p q f)) (λ (i, _). comes p q i) (v.only p q e);
-      listed = λ p q w. ⊎_elim (λ f. h.listed p q (pop_only s t x taken p q f)) (λ (i, a, b). record { comes = comes p q i; first = a; second = b }) (v.listed p q w);
+      listed = λ p q w. ⊎_elim (λ f. h.listed p q (pop_only s t x taken p q f)) (comes p q) (v.listed p q w);
       handled = λ p q e. ⊎_elim (λ f. before p q (h.handled p q (found_back p q f))) (λ (_, w). inl w) (v.only p q e);
       seeded = λ p q w. v.kept p q (found_there p q (h.seeded p q w));
       room = omega (arith, load_falls, v.size, ap length taken.places, h.room);

@@ -4,7 +4,7 @@ use native.Mathlib.Decide.{ℕ_discrete}
 use Rattle.base.specs.Stacks.{used, Stored, Pushes}
 use Rattle.grading.specs.Pairing.{Adds}
 use Rattle.grading.specs.StateSets.{In, Taken}
-use Rattle.grading.specs.Worklists.{Found, pair, Room, Visits, Among, Below}
+use Rattle.grading.specs.Worklists.{Found, Room, Visits, Among, Below}
 use Rattle.grading.specs.declared.products.Pair.{Pair}
 use Rattle.grading.specs.declared.states.StateSet.{StateSet}
 use Rattle.grading.specs.declared.worklist.Worklist.{Worklist}
@@ -14,19 +14,19 @@ abbrev One : ℕ → ℕ → ℕ → ℕ → Type 0
 One p q r u = (r ≡ p) × (u ≡ q)
 
 -- a pair that was not yet found is added and pushed
-module _ (s t : Worklist) (p q : ℕ) (l : p < 32) (k : q < 32) (adds : Adds s.found p q t.found) (new : ¬ Found s p q) (room : Room s) where
-  stored : Stored s.waiting (pair p q) t.waiting → Visits (One p q) s t
+module _ (s t : Worklist) (x : Pair) (adds : Adds s.found x.first x.second t.found) (new : ¬ Found s x.first x.second) (room : Room s) where
+  stored : Stored s.waiting x t.waiting → Visits (One x.first x.second) s t
   stored h = record {
     kept = λ r u e. (adds.each r u).1 (inl e);
     all = λ r u e. (adds.each r u).1 (inr e);
-    only = λ r u e. ⊎_elim inl (λ (a, b). inr ((a, b), push_new s t (pair p q) h r u (ap (λ x. pair x q) (sym a) ∙ ap (pair r) (sym b)))) ((adds.each r u).0 e);
-    waits = push_kept s t (pair p q) h;
-    listed = λ r u w. ⊎_elim inl (λ e. let a : r ≡ p = sym (ap (λ x. x.first) e) in let b : u ≡ q = sym (ap (λ x. x.second) e) in inr ((a, b), omega arith, omega arith)) (push_only s t (pair p q) h r u w);
+    only = λ r u e. ⊎_elim inl (λ (a, b). inr ((a, b), push_new s t x h r u (sym a, sym b))) ((adds.each r u).0 e);
+    waits = push_kept s t x h;
+    listed = λ r u w. ⊎_elim inl (λ (a, b). inr (sym a, sym b)) (push_only s t x h r u w);
     load = omega (arith, adds.fewer new, h.used);
-    size = ap length h.places ∙ length-set s.waiting.places.now (used s.waiting) (pair p q);
+    size = ap length h.places ∙ length-set s.waiting.places.now (used s.waiting) x;
   }
 
-  pub visits_new : (r : Result (Unit {0}) Pair) → Pushes s.waiting (pair p q) t.waiting r → Visits (One p q) s t
+  pub visits_new : (r : Result (Unit {0}) Pair) → Pushes s.waiting x t.waiting r → Visits (One x.first x.second) s t
   visits_new (Ok _) h = stored h
   visits_new (Err _) (full, _, _) = absurd (omega (arith, adds.fewer new, room, full))
 
@@ -56,7 +56,7 @@ module _ (P : ℕ → ℕ → Type 0) where
     all = λ p q e. ⊎_elim (λ w. h.kept p q (g.all p q w)) (h.all p q) (either p q e);
     only = λ p q e. ⊎_elim (λ f. ⊎_elim inl (λ (w, i). inr (from-p p q w, h.waits p q i)) (g.only p q f)) (λ (w, i). inr (from-q p q w, i)) (h.only p q e);
     waits = λ p q e. h.waits p q (g.waits p q e);
-    listed = λ p q e. ⊎_elim (λ f. ⊎_elim inl (λ (w, a, b). inr (from-p p q w, a, b)) (g.listed p q f)) (λ (w, a, b). inr (from-q p q w, a, b)) (h.listed p q e);
+    listed = λ p q e. ⊎_elim (λ f. ⊎_elim inl (λ w. inr (from-p p q w)) (g.listed p q f)) (λ w. inr (from-q p q w)) (h.listed p q e);
     load = h.load ∙ g.load;
     size = h.size ∙ g.size;
   }

@@ -19,15 +19,15 @@ Below n wanted p q = (p < n) × wanted p q
 abbrev pub Found : Worklist → ℕ → ℕ → Type 0
 Found s = Has s.found
 
--- the pair p, q as it is stored
-abbrev pub pair : ℕ → ℕ → Pair
-pair p q = record { first = p; second = q }
+-- x is the pair p, q as it is stored
+abbrev pub Is : Pair → ℕ → ℕ → Type 0
+Is x p q = (x.first ≡ p) × (x.second ≡ q)
 
 -- the pair p, q stands at a place of the store
 pub record Waits (s : Worklist) (p q : ℕ) : Type 0 where
   pub place : ℕ
   pub below : place < used s.waiting
-  pub is : slice_index_or s.waiting.places.now place (pair p q) ≡ pair p q
+  pub is : (d : Pair) → Is (slice_index_or s.waiting.places.now place d) p q
 
 -- how many pairs have yet to be found or to be taken from the store
 abbrev pub load : Worklist → ℕ
@@ -43,6 +43,6 @@ pub record Visits (wanted : ℕ → ℕ → Type 0) (s t : Worklist) : Type 0 wh
   pub all : (p q : ℕ) → wanted p q → Found t p q
   pub only : (p q : ℕ) → Found t p q → Found s p q ⊎ (wanted p q × Waits t p q)
   pub waits : (p q : ℕ) → Waits s p q → Waits t p q
-  pub listed : (p q : ℕ) → Waits t p q → Waits s p q ⊎ (wanted p q × (p < 32) × (q < 32))
+  pub listed : (p q : ℕ) → Waits t p q → Waits s p q ⊎ wanted p q
   pub load : load t ≡ load s
   pub size : length t.waiting.places.now ≡ length s.waiting.places.now

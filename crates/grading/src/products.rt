@@ -4,11 +4,12 @@ ghost use Rattle.grading.specs.StateSets.{In};
 
 use crate::states::StateSet;
 
-/// A pair of states.
+/// A pair of states below 32.
 #[derive(Clone, Copy)]
 pub struct Pair {
     pub first: u8,
     pub second: u8,
+    ghost within: { (first < 32) × (second < 32) },
 }
 
 /// Each pair of a state of the first set and one of the second.
@@ -35,6 +36,6 @@ pub trait Moves {
     ghost goes: { Self → ℕ → ℕ → ℕ → ℕ → ℕ → Type 0 };
 
     fn before(&self, label: u8, pair: Pair) -> Product
-        requires { (label < 16) × ((pair.first < 32) × (pair.second < 32)) }
+        requires { label < 16 }
         ensures { (p q : ℕ) → (In p result.firsts × In q result.seconds) ↔ goes self.now label p q pair.first pair.second };
 }

@@ -17,13 +17,13 @@ pub struct Worklist<'a> {
 
 impl Worklist<'_> {
     // Adds a pair to those found, unless it is one, and has it wait.
-    fn visit(&mut self, first: u8, second: u8)
-        requires { (first < 32) × ((second < 32) × (Room self.old)) }
-        ensures { Visits (λ p q. (p ≡ first) × (q ≡ second)) self.old self.new }
+    fn visit(&mut self, pair: Pair)
+        requires { Room self.old }
+        ensures { Visits (λ p q. (p ≡ pair.first) × (q ≡ pair.second)) self.old self.new }
     {
-        if !self.found.has(first, second) {
-            self.found.add(first, second);
-            let _ = self.waiting.push(Pair { first, second });
+        if !self.found.has(pair.first, pair.second) {
+            self.found.add(pair.first, pair.second);
+            let _ = self.waiting.push(pair);
         }
     }
 
@@ -33,7 +33,7 @@ impl Worklist<'_> {
         ensures { Visits (λ p q. (p ≡ first) × In q seconds) self.old self.new }
     {
         for second in seconds {
-            self.visit(first, second);
+            self.visit(Pair { first, second });
         }
     }
 
@@ -59,7 +59,7 @@ impl Worklist<'_> {
 
     /// Visits the pairs from which a label below the count leads to the pair.
     pub fn visit_before<M: Moves>(&mut self, labels: u8, moves: &M, pair: Pair)
-        requires { (Room self.old) × ((labels ≤ 16) × ((pair.first < 32) × (pair.second < 32))) }
+        requires { (Room self.old) × (labels ≤ 16) }
         ensures { Visits (Among labels (λ a p q. M.goes moves.now a p q pair.first pair.second)) self.old self.new }
     {
         for label in 0..labels {

@@ -3,7 +3,7 @@ use Rattle.std.proofs.Common.{length, refl, ap, subst, arith}
 use Rattle.base.specs.Tables.{automaton}
 use Rattle.grading.specs.Worklists.{Among, Below, Visits}
 use Rattle.grading.specs.declared.worklist.Worklist.{Worklist}
-use Rattle.grading.proofs.Halfway.{top, room_left, halfway_begun, halfway_more, halfway_ended}
+use Rattle.grading.proofs.Halfway.{room_left, halfway_begun, halfway_more, halfway_ended}
 use Rattle.grading.proofs.spread.spread.Goals as goal
 
 pub loop-pair-init : goal.loop-pair-init
@@ -20,8 +20,7 @@ visit_before-requires g c =
     let goes = g.M.Moves.goes c.args.moves.now in
     let seeds = Below A.states (g.S.Seeds.wanted c.args.seeds.now) in
     let t : Worklist = record { found = c.loop-pair.list.found; waiting = c.pop.new.self } in
-    let here = top A.labels goes seeds c.loop-pair.list t c.in-Some.pair c.loop-pair.invariant refl c.in-Some.ensures in
-    (room_left A.labels goes seeds c.loop-pair.list t c.in-Some.pair c.loop-pair.invariant refl c.in-Some.ensures, (omega (arith, c.labels.ensures, c.args.table.now.sized.1), (here.first, here.second)))
+    (room_left A.labels goes seeds c.loop-pair.list t c.in-Some.pair c.loop-pair.invariant refl c.in-Some.ensures, omega (arith, c.labels.ensures, c.args.table.now.sized.1))
 
 pub loop-pair-preserved : goal.loop-pair-preserved
 loop-pair-preserved g c =

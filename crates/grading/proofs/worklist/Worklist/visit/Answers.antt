@@ -6,9 +6,10 @@ use Rattle.grading.proofs.Visiting.{visits_new, visits_old}
 use Rattle.grading.proofs.worklist.Worklist.visit.Goals as goal
 
 pub returns-then-not-has : goal.returns-then-not-has
-returns-then-not-has c = visits_new c.args.self.now (record { found = c.add.new.self; waiting = c.push.new.self }) c.args.first c.args.second c.requires.0 c.requires.1.0 c.add.ensures (not_from_Decides c.has.result c.has.ensures c.if-not-has.true) c.requires.1.1 c.push.result c.push.ensures
+returns-then-not-has c = visits_new c.args.self.now (record { found = c.add.new.self; waiting = c.push.new.self }) c.args.pair c.add.ensures (not_from_Decides c.has.result c.has.ensures c.if-not-has.true) c.requires c.push.result c.push.ensures
 
 pub returns-else-not-has : goal.returns-else-not-has
 returns-else-not-has c =
     let s = c.args.self.now in
-    visits_old (λ p q. (p ≡ c.args.first) × (q ≡ c.args.second)) s (λ p q (e, f). subst (λ p. Found s p q) (sym e) (subst (Found s c.args.first) (sym f) (c.has.ensures.0 c.if-not-has.false)))
+    let x = c.args.pair in
+    visits_old (λ p q. (p ≡ x.first) × (q ≡ x.second)) s (λ p q (e, f). subst (λ p. Found s p q) (sym e) (subst (Found s x.first) (sym f) (c.has.ensures.0 c.if-not-has.false)))
