@@ -54,13 +54,13 @@ pub record Kept (before after : Scan) : Type 0 where
   pub labels : after.labels.now ≡ before.labels.now
 
 -- the same, of a row that a scan makes, and of all rows
-abbrev pub RowOf : Scan → ℕ → Scan → TableRow → Type 0
-RowOf before state after r =
+abbrev pub RowFrom : Scan → ℕ → Scan → TableRow → Type 0
+RowFrom before state after r =
     Row (steps_in before) (slice_index (sets_in before) state) (sets_in before) (labels_in before) r.targets (sets_in after)
     × Decides r.accepts (Holds (slice_index (sets_in before) state) (length (steps_in before)))
 
-abbrev pub StuckAt : Scan → ℕ → Scan → Type 0
-StuckAt before state after = Stuck (steps_in before) (labels_in before) (slice_index (sets_in before) state) (sets_in before) (sets_in after)
+abbrev pub StuckFrom : Scan → ℕ → Scan → Type 0
+StuckFrom before state after = Stuck (steps_in before) (labels_in before) (slice_index (sets_in before) state) (sets_in before) (sets_in after)
 
 abbrev pub AllScanned : Scan → Scan → List TableRow → Type 0
 AllScanned before after rows = Scanned (steps_in before) (labels_in before) rows (length (sets_in after)) (sets_in after)

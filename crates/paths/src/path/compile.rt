@@ -36,7 +36,7 @@ struct Scan<'a> {
 }
 
 impl<'a> Scan<'a> {
-    ghost use Rattle.paths.specs.Scans.{steps_in, labels_in, sets_in, Kept, RowOf, StuckAt, AllScanned};
+    ghost use Rattle.paths.specs.Scans.{steps_in, labels_in, sets_in, Kept, RowFrom, StuckFrom, AllScanned};
 
     // The rows of all states that are met; nothing where the sets run out of numbers.
     fn rows(&mut self) -> Option<[Row; 32]>
@@ -60,7 +60,7 @@ impl<'a> Scan<'a> {
     // The row of one state; nothing where the sets run out of numbers.
     fn row(&mut self, state: u8) -> Option<Row>
         requires { state < length (sets_in self.old) }
-        ensures row { MatchOption result (StuckAt self.old state self.new) (RowOf self.old state self.new) }
+        ensures row { MatchOption result (StuckFrom self.old state self.new) (RowFrom self.old state self.new) }
         ensures kept { Kept self.old self.new }
     {
         let set = self.sets.set(state);
