@@ -29,6 +29,7 @@ impl Distances {
             steps: seeded(table.states(), seeds),
             most: 0,
         };
+        // A round can raise the most, so the range of rounds is not known before.
         let mut steps = 0;
         while steps <= all.most {
             all.measure_all(table, steps);
@@ -70,6 +71,7 @@ impl Distances {
         }
     }
 
+    // The table is passed, since each call that writes the distances would have to promise that they keep it.
     // Measures each pair of one first state so.
     fn measure_row(&mut self, table: &Table, first: u8, steps: u16)
         requires { (first < (automaton table.now).states) × (steps < 1024) }

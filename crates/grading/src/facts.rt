@@ -11,6 +11,8 @@ use crate::seeds::Same;
 use crate::spread::spread;
 use base::table::Table;
 
+// A ghost field must be a proposition, so what holds by several words is truncated. That a state is one of the table's is
+// asked of each call, since no type can name the table's count.
 /// The pairs of a table's states that differ, that meet, of which the first reaches the second, and that meet in the component
 /// of the first.
 #[derive(Clone, Copy)]
@@ -20,7 +22,6 @@ pub struct Facts<'a> {
     pub meet: Pairs,
     pub reach: Pairs,
     pub inside: Pairs,
-    // A ghost field must be a proposition, so what holds by several words is truncated.
     ghost known: { ∥ Known (automaton table.now) differ meet reach inside ∥₁ },
 }
 

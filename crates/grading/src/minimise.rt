@@ -16,6 +16,7 @@ pub fn minimise(table: &Table) -> Table
     let before = Predecessors::of(table);
     let differ = Differing::of(&before);
     let mut draft = Draft::begun(table.start());
+    // Writing a row can add numbers, so their range is not known before.
     let mut number = 0;
     while number < draft.count() {
         draft.write_row(&differ, number);

@@ -41,6 +41,7 @@ fn add(entering: &mut [Pairs; 16], table: &Table, state: u8)
     requires { (state < (automaton table.now).states) × (Indexed (automaton table.now) entering.old (16 * state)) }
     ensures { Indexed (automaton table.now) entering.new (16 * (state + 1)) }
 {
+    // By index: the label is stepped by, too.
     for label in 0..table.labels() {
         entering[label as usize].add(step(table, state, label), state);
     }

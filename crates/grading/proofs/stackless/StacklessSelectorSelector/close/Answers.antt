@@ -5,8 +5,8 @@ use Rattle.automata.specs.Noting.{Before}
 use Rattle.base.specs.Tables.{automaton}
 use Rattle.grading.specs.Held.{held}
 use Rattle.grading.proofs.Chained.{Led, led_recalled, led_retraced, led_below, led_few}
-use Rattle.grading.proofs.stackless.moves.StacklessSelectorSelector.close.Goals as goal
-use Rattle.grading.proofs.stackless.moves.StacklessSelectorSelector.close.Goals.{in-Some, in-None}
+use Rattle.grading.proofs.stackless.StacklessSelectorSelector.close.Goals as goal
+use Rattle.grading.proofs.stackless.StacklessSelectorSelector.close.Goals.{in-Some, in-None}
 
 pub invariant_of-self : goal.invariant_of-self
 invariant_of-self c =

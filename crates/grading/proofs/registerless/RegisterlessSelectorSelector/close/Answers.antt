@@ -3,7 +3,7 @@ use Rattle.std.proofs.Common.{◌<◌, sym, subst, arith}
 use Rattle.automata.specs.Holding.{Before}
 use Rattle.base.specs.Tables.{automaton}
 use Rattle.grading.proofs.Retracing.{back_below}
-use Rattle.grading.proofs.registerless.moves.RegisterlessSelectorSelector.close.Goals as goal
+use Rattle.grading.proofs.registerless.RegisterlessSelectorSelector.close.Goals as goal
 
 pub invariant_of-self : goal.invariant_of-self
 invariant_of-self c =

@@ -3,8 +3,8 @@ use Rattle.std.proofs.Common.{◌≡◌, ◌+◌, ◌<◌, sym, ap, ◌∙◌, s
 use Rattle.base.specs.Tables.{automaton}
 use Rattle.grading.specs.Held.{held}
 use Rattle.grading.proofs.Chained.{Led, led_inside, led_across, led_room, led_few}
-use Rattle.grading.proofs.stackless.moves.StacklessSelectorSelector.open.Goals as goal
-use Rattle.grading.proofs.stackless.moves.StacklessSelectorSelector.open.Goals.{then-leaves_for, else-leaves_for}
+use Rattle.grading.proofs.stackless.StacklessSelectorSelector.open.Goals as goal
+use Rattle.grading.proofs.stackless.StacklessSelectorSelector.open.Goals.{then-leaves_for, else-leaves_for}
 
 pub push-requires : goal.push-requires
 push-requires c =

@@ -3,7 +3,7 @@ use Rattle.std.proofs.Common.{◌<◌, sym, subst}
 use Rattle.base.specs.Tables.{automaton}
 use Rattle.grading.specs.Held.{held}
 use Rattle.grading.proofs.Chained.{Led, led_none, led_below, led_few}
-use Rattle.grading.proofs.stackless.moves.StacklessSelectorSelector.renew.Goals as goal
+use Rattle.grading.proofs.stackless.StacklessSelectorSelector.renew.Goals as goal
 
 pub invariant_of-self : goal.invariant_of-self
 invariant_of-self c =
