@@ -23,5 +23,6 @@ pub mod Making
 pub mod Counting
 pub mod Retracing
 pub mod Settling
+pub mod Noted
 pub mod Chained
 pub mod Showing

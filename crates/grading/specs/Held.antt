@@ -1,6 +1,5 @@
 -- The notes that are held, and how the newest is taken back.
-use Rattle.std.specs.Prelude.{◌≡◌, ℕ, ◌<◌, ◌≤◌, List, [], map, Some, None, Option, ◌≢◌}
-use Rattle.text.specs.Lists.{items}
+use Rattle.std.specs.Prelude.{◌≡◌, ℕ, ◌<◌, ◌≤◌, List, [], map, take, Some, None, Option, ◌≢◌}
 use Rattle.automata.specs.Noting.{Note, newest, older}
 use Rattle.grading.specs.declared.notes.Note.{Note as Written}
 use Rattle.grading.specs.declared.notes.Notes.{Notes}
@@ -11,7 +10,7 @@ plain n = record { depth = n.depth; state = n.state }
 
 -- the notes held, the oldest first
 abbrev pub held : Notes → List Note
-held s = map plain (items s.list)
+held s = map plain (take s.count s.places)
 
 -- the newest of the notes, if there is one
 abbrev pub Newest : List Note → Option Written → Type 0

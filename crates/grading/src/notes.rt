@@ -1,6 +1,5 @@
 //! Notes of the states from before a path entered another component.
-use text::list::ArrayList;
-
+ghost use Rattle.std.specs.Prelude.{◌≡◌, ◌≤◌, length};
 /// The state from before a step into another component, and the depth that the step led to.
 #[derive(Clone, Copy)]
 pub struct Note {
@@ -9,34 +8,38 @@ pub struct Note {
 }
 
 // Each note is of another component, and none is of the last, so 31 places suffice for 32 states.
-/// At most 31 notes, the newest last.
+// No `ArrayList`: its `usize` count would make the selector ten bytes larger, and `pintleapple grade` prints how large it is.
+/// At most 31 notes, the newest last. Places past the count mean nothing.
 #[derive(Drop)]
 pub struct Notes {
-    list: ArrayList<Note, 31>,
+    places: [Note; 31],
+    count: u8,
+    ghost within: { (count ≤ 31) × (length places ≡ 31) },
 }
 
 impl Notes {
-    ghost use Rattle.std.specs.Prelude.{◌≡◌, ◌<◌, [], ◌∷◌, ◌++◌, length};
+    ghost use Rattle.std.specs.Prelude.{◌<◌, [], ◌∷◌, ◌++◌};
     ghost use Rattle.grading.specs.Held.{plain, held, Newest, Recalls};
 
     pub fn none() -> Notes
         ensures { held result ≡ [] }
     {
         Notes {
-            list: ArrayList::empty(Note { depth: 0, state: 0 }),
+            places: [Note { depth: 0, state: 0 }; 31],
+            count: 0,
         }
     }
 
     pub fn count(&self) -> u8
         ensures { result ≡ length (held self.now) }
     {
-        self.list.len() as u8
+        self.count
     }
 
     pub fn newest(&self) -> Option<Note>
         ensures { Newest (held self.now) result }
     {
-        self.list.as_slice().last().copied()
+        self.places[..self.count as usize].last().copied()
     }
 
     /// Writes a note behind the last.
@@ -44,7 +47,8 @@ impl Notes {
         requires { length (held self.old) < 31 }
         ensures { held self.new ≡ held self.old ++ plain note ∷ [] }
     {
-        let _ = self.list.push(note);
+        self.places[self.count as usize] = note;
+        self.count += 1;
     }
 
     /// Takes the newest note back if the depth is above it.
@@ -55,12 +59,13 @@ impl Notes {
         if depth >= note.depth {
             return None;
         }
-        self.list.pop()
+        self.count -= 1;
+        Some(note)
     }
 
     pub fn clear(&mut self)
         ensures { held self.new ≡ [] }
     {
-        self.list.clear();
+        self.count = 0;
     }
 }
