@@ -1,5 +1,6 @@
 pub mod Queries
 pub mod Grades
-pub mod Choices
-pub mod Readings
+pub mod Failures
+pub mod Asking
 pub mod Outcomes
+pub mod Lending

@@ -1,9 +1,11 @@
 //! Grades for C.
 ghost use Rattle.std.specs.Prelude.{◌≡◌};
-ghost use Rattle.capi.specs.Grades.{Grades, number_of_grade, notes_for};
+ghost use Rattle.capi.specs.Failures.{outcome_number};
+ghost use Rattle.capi.specs.Grades.{Grades, places};
 ghost use Rattle.capi.specs.Queries.{OfText, OfPath};
 
-use crate::laying::{TOO_FEW, lay};
+use crate::failure::{Failure, number_of};
+use crate::laying::lay;
 use crate::query::{of_path, of_text};
 use base::table::Table;
 use grading::grade::{Grade, Graded};
@@ -20,7 +22,7 @@ const NO_NOTES: u32 = 0xffff_ffff;
 pub extern "C" fn pintleapple_grade_table(text: &[u8], answer: &mut [u32]) -> u32
     ensures { Grades (OfText text.now) answer.old answer.new result }
 {
-    answer_grade(of_text(text), answer)
+    number_of(answer_grade(of_text(text), answer))
 }
 
 /// Grades the table of a path over the names of a label line.
@@ -28,47 +30,37 @@ pub extern "C" fn pintleapple_grade_table(text: &[u8], answer: &mut [u32]) -> u3
 pub extern "C" fn pintleapple_grade_path(labels: &[u8], path: &[u8], answer: &mut [u32]) -> u32
     ensures { Grades (OfPath labels.now path.now) answer.old answer.new result }
 {
-    answer_grade(of_path(labels, path), answer)
+    number_of(answer_grade(of_path(labels, path), answer))
 }
 
-// The number of the outcome; a grade goes into the answer.
-fn answer_grade(query: Result<Table, Refusal>, answer: &mut [u32]) -> u32
-    ensures { Grades (λ q. q ≡ query) answer.old answer.new result }
+// A grade goes into the answer.
+fn answer_grade(query: Result<Table, Refusal>, answer: &mut [u32]) -> Result<(), Failure>
+    ensures { Grades (λ q. q ≡ query) answer.old answer.new (outcome_number result) }
 {
     if answer.len() < PLACES {
-        return TOO_FEW;
+        return Err(Failure::TooFew);
     }
-    let table = match query {
-        Ok(table) => table,
-        Err(refusal) => return u32::from(refusal.number()),
-    };
-    let graded = Graded::of(&table);
-    let components = u32::from(graded.components);
-    let states = u32::from(graded.table.states());
-    let notes = notes_needed(graded.grade, components);
-    lay(
-        &[grade_number(graded.grade), states, components, notes],
-        answer,
-    );
-    0
+    let graded = Graded::of(&query?);
+    lay(&Places::from(graded).0, answer);
+    Ok(())
 }
 
-fn grade_number(grade: Grade) -> u32
-    ensures { result ≡ number_of_grade grade }
-{
-    match grade {
-        Grade::Registerless => 1,
-        Grade::Stackless => 2,
-        Grade::Neither => 3,
-    }
-}
+// The places of an answer, as a caller reads them.
+#[derive(Clone, Copy)]
+struct Places([u32; PLACES]);
 
-// One note less than there are components, where notes serve.
-fn notes_needed(grade: Grade, components: u32) -> u32
-    ensures { result ≡ notes_for grade components }
-{
-    match grade {
-        Grade::Registerless | Grade::Stackless => components.saturating_sub(1),
-        Grade::Neither => NO_NOTES,
+impl From<Graded> for Places {
+    ghost from_gives = { λ graded all. all.0 ≡ places graded };
+
+    // The stackless selector needs one note less than there are components.
+    fn from(graded: Graded) -> Places {
+        let components = u32::from(graded.components);
+        let spared = components.saturating_sub(1);
+        let (grade, notes) = match graded.grade {
+            Grade::Registerless => (1, spared),
+            Grade::Stackless => (2, spared),
+            Grade::Neither => (3, NO_NOTES),
+        };
+        Places([grade, u32::from(graded.table.states()), components, notes])
     }
 }

@@ -1,9 +1,9 @@
 //! The C interface for a controller's firmware: numbers and lent memory. No heap.
 #![tactic(auto)]
 
-mod choosing;
+mod failure;
 pub mod grade;
 mod laying;
+mod lent;
 pub mod pick;
 mod query;
-mod reading;

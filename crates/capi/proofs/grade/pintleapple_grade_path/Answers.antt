@@ -3,4 +3,4 @@ use Rattle.capi.proofs.Queried.{grades_read}
 use Rattle.capi.proofs.grade.pintleapple_grade_path.Goals as goal
 
 pub returns : goal.returns
-returns c = grades_read _ _ _ c.of_path.ensures c.answer_grade.ensures
+returns c = rw c.number_of.ensures (grades_read _ _ _ c.of_path.ensures c.answer_grade.ensures)

@@ -1,6 +1,7 @@
 -- The picks of the table that was read.
-use Rattle.capi.proofs.Queried.{picks_read}
+use Rattle.std.proofs.Common.{rules}
+use Rattle.capi.proofs.Queried.{picks_read, picks_left}
 use Rattle.capi.proofs.pick.pintleapple_pick_path.Goals as goal
 
 pub returns : goal.returns
-returns c = picks_read _ _ _ _ _ _ c.of_path.ensures c.answer_picks.ensures
+returns c = rw c.number_of.ensures (picks_left (search rules) (search rules) (search rules) (picks_read _ _ _ _ _ _ c.of_path.ensures c.pick.ensures.picks))

@@ -1,0 +1,32 @@
+-- The number of a call's outcome.
+use Rattle.std.specs.Prelude.{◌≡◌, ℕ, ⊤, Ok, Err, Result}
+use Rattle.text.specs.Refusals.{number}
+use Rattle.text.specs.declared.refusal.Refusal.{Refusal}
+use Rattle.base.specs.declared.run.Cause.{Cause}
+use Rattle.base.specs.declared.run.Cause.TheVariants.{Ended, Refused as CauseRefused}
+use Rattle.base.specs.declared.source.Ending.TheVariants.{Clean, Fault}
+use Rattle.choosing.specs.declared.kind.UnknownSelector.{UnknownSelector}
+use Rattle.capi.specs.declared.failure.Failure.{Failure}
+use Rattle.capi.specs.declared.failure.Failure.TheVariants.{TooFew, NoSelector, Refused}
+
+abbrev pub number_of_failure : Failure → ℕ
+number_of_failure TooFew = 255
+number_of_failure NoSelector = 254
+number_of_failure (Refused why) = number why
+
+-- 0 where all went well, else the number of what did not
+abbrev pub outcome_number : Result ⊤ Failure → ℕ
+outcome_number (Ok done) = 0
+outcome_number (Err why) = number_of_failure why
+
+-- well where the drain ended clean, else what ended it
+abbrev pub ended_by : Cause → Result ⊤ Failure
+ended_by (Ended Clean) = Ok tt
+ended_by (Ended (Fault why line)) = Err (Refused why)
+ended_by (CauseRefused why tag) = Err (Refused why)
+
+abbrev pub IsRefused : Refusal → Failure → Type 0
+IsRefused why failure = failure ≡ Refused why
+
+abbrev pub IsUnknown : UnknownSelector → Failure → Type 0
+IsUnknown unknown failure = failure ≡ NoSelector
