@@ -1,5 +1,5 @@
--- What is lent for a picking call.
-use Rattle.std.specs.Prelude.{◌≡◌, ℕ, Ok, Err, Option, Result}
+-- What a picking call is lent to write to.
+use Rattle.std.specs.Prelude.{◌≡◌, ℕ, List, Ok, Err, Option, Result}
 use Rattle.text.specs.declared.refusal.Refusal.{Refusal}
 use Rattle.base.specs.declared.table.Table.{Table}
 use Rattle.choosing.specs.Kinds.{number_of_kind}
@@ -19,8 +19,8 @@ pub record Kept (before after : Lent) : Type 0 where
   pub totals : after.totals.ghost_name ≡ before.totals.ghost_name
 
 -- a run reads the tags, or none begins and nothing is written
-abbrev pub Begun : (Result Table Refusal → Type 0) → Option SelectorKind → ℕ → Lent → Lent → Result Ran Refusal → Type 0
-Begun query wanted limit before after (Ok run) =
-    Picked query wanted before.tags.now limit before.stack.now after.stack.now before.picks.now after.picks.now (number_of_kind run.selector) run.reading
-Begun query wanted limit before after (Err why) =
-    Unbegun query wanted before.tags.now why × (after.stack.now ≡ before.stack.now) × (after.picks.now ≡ before.picks.now)
+abbrev pub Begun : (Result Table Refusal → Type 0) → Option SelectorKind → ℕ → List ℕ → Lent → Lent → Result Ran Refusal → Type 0
+Begun query wanted limit tags before after (Ok run) =
+    Picked query wanted tags limit before.stack.now after.stack.now before.picks.now after.picks.now (number_of_kind run.selector) run.reading
+Begun query wanted limit tags before after (Err why) =
+    Unbegun query wanted tags why × (after.stack.now ≡ before.stack.now) × (after.picks.now ≡ before.picks.now)

@@ -62,11 +62,10 @@ impl Ran {
     }
 }
 
-// The memory of a picking call.
+// The memory that a picking call writes to.
 #[derive(Drop)]
 pub(crate) struct Lent<'a> {
     pub(crate) stack: &'a mut [u8],
-    pub(crate) tags: &'a [u8],
     pub(crate) picks: &'a mut [u32],
     pub(crate) totals: &'a mut [u32],
 }
@@ -78,15 +77,16 @@ impl Lent<'_> {
         query: Result<Table, Refusal>,
         selector: u32,
         limit: u32,
+        tags: &[u8],
     ) -> Result<(), Failure>
-        ensures picks { Picks (λ q. q ≡ query) selector limit self.old.tags.now (memory self.old) (memory self.new) (outcome_number result) }
+        ensures picks { Picks (λ q. q ≡ query) selector limit tags.now (memory self.old) (memory self.new) (outcome_number result) }
         ensures kept { Kept self.old self.new }
     {
         if self.totals.len() < PLACES {
             return Err(Failure::TooFew);
         }
         let asked = Asked::try_from(selector)?;
-        let run = self.read(query, asked.wanted, limit)?;
+        let run = self.read(query, asked.wanted, limit, tags)?;
         lay(&run.places(), self.totals);
         ended(run.reading.drained.cause)
     }
@@ -97,17 +97,18 @@ impl Lent<'_> {
         query: Result<Table, Refusal>,
         wanted: Option<SelectorKind>,
         limit: u32,
+        tags: &[u8],
     ) -> Result<Ran, Refusal>
-        ensures reads { Begun (λ q. q ≡ query) wanted limit self.old self.new result }
+        ensures reads { Begun (λ q. q ≡ query) wanted limit tags.now self.old self.new result }
         ensures kept { Kept self.old self.new }
         ensures totals { self.new.totals.now ≡ self.old.totals.now }
     {
         let table = query?;
         let chosen = Chosen::choose(&table, wanted)?;
-        let mut source = PackedSource::new(self.tags)?;
+        let source = PackedSource::new(tags)?;
         Ok(Ran {
             selector: chosen.kind(),
-            reading: chosen.read(limit, self.stack, &mut source, self.picks),
+            reading: chosen.read(limit, self.stack, source, self.picks),
         })
     }
 }

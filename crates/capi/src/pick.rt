@@ -21,11 +21,10 @@ pub extern "C" fn pintleapple_pick_table(
 {
     let mut lent = Lent {
         stack,
-        tags,
         picks,
         totals,
     };
-    number_of(lent.pick(of_text(text), selector, limit))
+    number_of(lent.pick(of_text(text), selector, limit, tags))
 }
 
 /// Reads packed bytes, and picks with a selector for the table of a path over the names of a label line.
@@ -44,9 +43,8 @@ pub extern "C" fn pintleapple_pick_path(
 {
     let mut lent = Lent {
         stack,
-        tags,
         picks,
         totals,
     };
-    number_of(lent.pick(of_path(labels, path), selector, limit))
+    number_of(lent.pick(of_path(labels, path), selector, limit, tags))
 }

@@ -17,17 +17,17 @@ pub struct Reading {
 
 impl Reading {
     /// A whole run over a query's table: begun, drained of the source once, and ended.
-    pub fn of<S: Selector + Drop, T: TagSource>(
+    pub fn of<S: Selector + Drop, T: TagSource + Drop>(
         table: &Table,
         selector: S,
         limit: u32,
-        source: &mut T,
+        mut source: T,
         picks: &mut [u32],
     ) -> Reading
-        ensures { Runs S.meaning S.moves selector limit (T.holds source.old) picks.old picks.new result }
+        ensures { Runs S.meaning S.moves selector limit (T.holds source) picks.old picks.new result }
     {
         let Begun { graded: _, mut run } = begin(table, selector, limit);
-        let drained = run.drain(source, picks);
+        let drained = run.drain(&mut source, picks);
         let (totals, selector) = run.end();
         drop(selector);
         Reading { drained, totals }

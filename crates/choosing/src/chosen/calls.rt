@@ -48,14 +48,14 @@ impl<'a> Chosen<'a> {
     }
 
     /// A whole run: begun, drained of the source once, and ended. Only the stack selector writes to the stack.
-    pub fn read<T: TagSource>(
+    pub fn read<T: TagSource + Drop>(
         self,
         limit: u32,
         stack: &mut [u8],
-        source: &mut T,
+        source: T,
         picks: &mut [u32],
     ) -> Reading
-        ensures { Reads (automaton self.entry.table.now) self.entry.made limit (T.holds source.old) stack.old stack.new picks.old picks.new result }
+        ensures { Reads (automaton self.entry.table.now) self.entry.made limit (T.holds source) stack.old stack.new picks.old picks.new result }
     {
         let Chosen { table, made } = self;
         match made {
@@ -97,14 +97,14 @@ impl Made {
 }
 
 // A run of the stack selector over the lent bytes.
-fn stack_reading<'a, T: TagSource>(
+fn stack_reading<'a, T: TagSource + Drop>(
     table: &'a Table,
     stack: &'a mut [u8],
     limit: u32,
-    source: &mut T,
+    source: T,
     picks: &mut [u32],
 ) -> Reading
-    ensures { StackRuns (automaton table.now) stack.old limit (T.holds source.old) picks.old picks.new result }
+    ensures { StackRuns (automaton table.now) stack.old limit (T.holds source) picks.old picks.new result }
 {
     Reading::of(
         table,
