@@ -3,8 +3,7 @@ use Rattle.std.specs.Prelude.{◌≡◌, ℕ, ⊤, Ok, Err, Result}
 use Rattle.text.specs.Refusals.{number}
 use Rattle.text.specs.declared.refusal.Refusal.{Refusal}
 use Rattle.base.specs.declared.run.Cause.{Cause}
-use Rattle.base.specs.declared.run.Cause.TheVariants.{Ended, Refused as CauseRefused}
-use Rattle.base.specs.declared.source.Ending.TheVariants.{Clean, Fault}
+use Rattle.base.specs.declared.run.Cause.TheVariants.{Fault as AtFault, Refused as CauseRefused}
 use Rattle.choosing.specs.declared.kind.UnknownSelector.{UnknownSelector}
 use Rattle.capi.specs.declared.failure.Failure.{Failure}
 use Rattle.capi.specs.declared.failure.Failure.TheVariants.{TooFew, NoSelector, Refused}
@@ -19,11 +18,15 @@ abbrev pub outcome_number : Result ⊤ Failure → ℕ
 outcome_number (Ok done) = 0
 outcome_number (Err why) = number_of_failure why
 
--- well where the drain ended clean, else what ended it
-abbrev pub ended_by : Cause → Result ⊤ Failure
-ended_by (Ended Clean) = Ok tt
-ended_by (Ended (Fault why line)) = Err (Refused why)
-ended_by (CauseRefused why tag) = Err (Refused why)
+-- why a drain stopped before a clean end
+abbrev pub refusal_of : Cause → Refusal
+refusal_of (AtFault fault) = fault.refusal
+refusal_of (CauseRefused why tag) = why
+
+-- 0 where a drain ended clean, else the number of what ended it
+abbrev pub number_of_end : Result ⊤ Cause → ℕ
+number_of_end (Ok done) = 0
+number_of_end (Err cause) = number (refusal_of cause)
 
 abbrev pub IsRefused : Refusal → Failure → Type 0
 IsRefused why failure = failure ≡ Refused why

@@ -6,7 +6,6 @@ use Rattle.text.specs.declared.refusal.Refusal.TheVariants.{TooLong}
 use Rattle.base.specs.Courses.{laid}
 use Rattle.base.specs.Packed.{packed_source}
 use Rattle.base.specs.Tables.{automaton}
-use Rattle.base.specs.declared.run.Cause.{Cause}
 use Rattle.base.specs.declared.table.Table.{Table}
 use Rattle.choosing.specs.Choices.{kind_of}
 use Rattle.choosing.specs.Chosens.{Chooses}
@@ -16,7 +15,7 @@ use Rattle.choosing.specs.declared.chosen.Chosen.{Chosen}
 use Rattle.choosing.specs.declared.kind.SelectorKind.{SelectorKind}
 use Rattle.choosing.specs.declared.reading.Reading.{Reading}
 use Rattle.capi.specs.Asking.{wanted_of}
-use Rattle.capi.specs.Failures.{outcome_number, ended_by}
+use Rattle.capi.specs.Failures.{number_of_end}
 
 -- the lent memory
 pub record Buffers : Type 0 where
@@ -26,10 +25,6 @@ pub record Buffers : Type 0 where
 
 abbrev pub lent : List ℕ → List ℕ → List ℕ → Buffers
 lent stack picks totals = record { stack = stack; picks = picks; totals = totals }
-
--- 0 where the drain ended clean, else the number of what ended it
-abbrev pub number_of_cause : Cause → ℕ
-number_of_cause c = outcome_number (ended_by c)
 
 -- the first places of the totals
 abbrev pub places : ℕ → Reading → List ℕ
@@ -58,4 +53,4 @@ pub data Picks (query : Result Table Refusal → Type 0) (asked limit : ℕ) (ta
   short : length before.totals < 6 → r ≡ 255 → after ≡ before → Picks query asked limit tags before after r
   unknown : 6 ≤ length before.totals → wanted_of asked ≡ None → r ≡ 254 → after ≡ before → Picks query asked limit tags before after r
   refused : (w : Option SelectorKind) (why : Refusal) → 6 ≤ length before.totals → wanted_of asked ≡ Some w → Unbegun query w tags why → r ≡ number why → after ≡ before → Picks query asked limit tags before after r
-  read : (w : Option SelectorKind) (selector : ℕ) (reading : Reading) → 6 ≤ length before.totals → wanted_of asked ≡ Some w → Picked query w tags limit before.stack after.stack before.picks after.picks selector reading → r ≡ number_of_cause reading.drained.cause → after.totals ≡ laid (places selector reading) before.totals → Picks query asked limit tags before after r
+  read : (w : Option SelectorKind) (selector : ℕ) (reading : Reading) → 6 ≤ length before.totals → wanted_of asked ≡ Some w → Picked query w tags limit before.stack after.stack before.picks after.picks selector reading → r ≡ number_of_end reading.drained.end → after.totals ≡ laid (places selector reading) before.totals → Picks query asked limit tags before after r

@@ -1,9 +1,9 @@
 //! What ends a call, and its number for C.
 ghost use Rattle.std.specs.Prelude.{◌≡◌};
-ghost use Rattle.capi.specs.Failures.{number_of_failure, outcome_number, ended_by, IsRefused, IsUnknown};
+ghost use Rattle.capi.specs.Failures.{number_of_failure, outcome_number, refusal_of, IsRefused, IsUnknown};
 
 use base::run::Cause;
-use base::source::Ending;
+use base::source::Fault;
 use choosing::kind::UnknownSelector;
 use text::refusal::Refusal;
 
@@ -23,6 +23,18 @@ impl From<Refusal> for Failure {
     }
 }
 
+impl From<Cause> for Failure {
+    ghost from_gives = { λ cause failure. IsRefused (refusal_of cause) failure };
+
+    fn from(cause: Cause) -> Failure {
+        match cause {
+            Cause::Fault(Fault { refusal, line: _ }) | Cause::Refused { refusal, tag: _ } => {
+                Failure::Refused(refusal)
+            }
+        }
+    }
+}
+
 impl From<UnknownSelector> for Failure {
     ghost from_gives = { IsUnknown };
 
@@ -38,7 +50,7 @@ impl From<Failure> for u32 {
         match failure {
             Failure::TooFew => 255,
             Failure::NoSelector => 254,
-            Failure::Refused(refusal) => u32::from(refusal.number()),
+            Failure::Refused(refusal) => u32::from(u8::from(refusal)),
         }
     }
 }
@@ -50,17 +62,5 @@ pub(crate) fn number_of(outcome: Result<(), Failure>) -> u32
     match outcome {
         Ok(()) => 0,
         Err(failure) => u32::from(failure),
-    }
-}
-
-// Ok where the drain ended clean, else what ended it.
-pub(crate) fn ended(cause: Cause) -> Result<(), Failure>
-    ensures { result ≡ ended_by cause }
-{
-    match cause {
-        Cause::Ended(Ending::Clean) => Ok(()),
-        Cause::Ended(Ending::Fault { refusal, line: _ }) | Cause::Refused { refusal, tag: _ } => {
-            Err(Failure::Refused(refusal))
-        }
     }
 }

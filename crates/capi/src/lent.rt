@@ -6,7 +6,7 @@ ghost use Rattle.capi.specs.Failures.{outcome_number};
 ghost use Rattle.capi.specs.Lending.{memory, Kept, Begun};
 ghost use Rattle.capi.specs.Outcomes.{places, Picks};
 
-use crate::failure::{Failure, ended};
+use crate::failure::Failure;
 use crate::laying::lay;
 use base::packed::PackedSource;
 use base::table::Table;
@@ -88,7 +88,8 @@ impl Lent<'_> {
         let asked = Asked::try_from(selector)?;
         let run = self.read(query, asked.wanted, limit, tags)?;
         lay(&run.places(), self.totals);
-        ended(run.reading.drained.cause)
+        run.reading.drained.end?;
+        Ok(())
     }
 
     // A run of the selector that is wanted over the tags; refuses the query, the selector or the tags.

@@ -8,7 +8,7 @@ use Rattle.automata.specs.declared.tag.Tag.TheVariants.{Open, Close}
 use Rattle.automata.proofs.Words.{word_append, word_parts}
 use Rattle.text.specs.declared.refusal.Refusal.{Refusal}
 use Rattle.base.specs.Book.{Terms, Book, blank, judged, taking, takes, course, drains, Nested}
-use Rattle.base.specs.Courses.{picked, onward, cause_of, laid}
+use Rattle.base.specs.Courses.{picked, onward, end_of, laid}
 use Rattle.base.specs.History.{Totalled, KeepsItsBook, draining, drained, begun, terms}
 use Rattle.base.specs.Picks.{PickedExactly, paths}
 use Rattle.base.specs.Promises.{DrainPromise, EndPromise}
@@ -32,7 +32,7 @@ booked m v s limit first last source after list list' r s' keeps drain ends nest
     record {
       offered = report.offered;
       picks = report.picks;
-      cause = report.cause;
+      end = report.end;
       written = report.written;
       totalled = kept.0.1;
       exactly = one_drain (terms m s limit) source list r.drained;
@@ -49,7 +49,7 @@ labelled : (s : Standing) (a : ℕ) → refusal s (Open a) ≡ None → a < s.la
 labelled s a e = grind (arith, nat_tests)
 
 -- the books with both terms fare alike
-record Alike (t u : Terms) (b : Book) (xs : List Tag) : Type 0 where
+record Alike (t u : Terms) (b : Book) (xs : List (Tag ℕ)) : Type 0 where
   pub fares : course t b xs ≡ course u b xs
   pub ends : drains t b xs ≡ drains u b xs
   pub nested : Nested u b xs → Nested t b xs
@@ -65,21 +65,21 @@ module _ (t u : Terms) (agree : Agree t u) where
     closed = b.closed;
   }
 
-  taking_same : (b : Book) (x : Tag) → Word u.labels b.path → refusal (judged u b) x ≡ None → taking t b x ≡ taking u b x
+  taking_same : (b : Book) (x : Tag ℕ) → Word u.labels b.path → refusal (judged u b) x ≡ None → taking t b x ≡ taking u b x
   taking_same b (Open a) w e = ap (λ p. TakenOpened (record { element = b.openings; picked = p })) (agree.wants _ (word_append u.labels b.path (a ∷ []) w (labelled (judged u b) a e, tt)))
   taking_same b (Close a) w e = refl
 
-  takes_same : (b : Book) (x : Tag) → Word u.labels b.path → refusal (judged u b) x ≡ None → takes t b x ≡ takes u b x
+  takes_same : (b : Book) (x : Tag ℕ) → Word u.labels b.path → refusal (judged u b) x ≡ None → takes t b x ≡ takes u b x
   takes_same b (Open a) w e = ap (λ d. record { path = b.path ++ (a ∷ []); openings = (takes t b (Open a)).openings; picked = b.picked ++ picked d; closed = b.closed }) (taking_same b (Open a) w e)
   takes_same b (Close a) w e = refl
 
-  takes_word : (b : Book) (x : Tag) → Word u.labels b.path → refusal (judged u b) x ≡ None → Word u.labels (takes u b x).path
+  takes_word : (b : Book) (x : Tag ℕ) → Word u.labels b.path → refusal (judged u b) x ≡ None → Word u.labels (takes u b x).path
   takes_word b (Open a) w e = word_append u.labels b.path (a ∷ []) w (labelled (judged u b) a e, tt)
   takes_word b (Close a) w e =
       let n = length b.path - 1 in
       (word_parts u.labels (take n b.path) (drop n b.path) (subst (Word u.labels) (sym (take-append-drop n b.path)) w)).0
 
-  alike : (b : Book) (xs : List Tag) → Word u.labels b.path → Alike t u b xs
+  alike : (b : Book) (xs : List (Tag ℕ)) → Word u.labels b.path → Alike t u b xs
   alike b [] w = record { fares = refl; ends = refl; nested = λ n. n }
   alike b (x ∷ xs) w = go (refusal (judged u b) x) refl (λ e. alike (takes u b x) xs (takes_word b x w e))
     where
@@ -105,7 +105,7 @@ agreed_so t u agree source list list' r law nested =
     record {
       offered = by.offered ∙ ap (λ c. c.offered) same.fares;
       picks = by.picks ∙ ap (λ c. length c.picks) same.fares;
-      cause = by.cause ∙ ap (λ c. cause_of c source.ending) same.fares;
+      end = by.end ∙ ap (λ c. end_of c source.ending) same.fares;
       written = by.written ∙ ap (λ c. laid c.picks list) same.fares;
       totalled = subst (λ b. Totalled b r.totals) same.ends by.totalled;
       exactly = one_drain u source list r.drained;

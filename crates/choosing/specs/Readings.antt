@@ -6,7 +6,7 @@ use Rattle.automata.specs.Meaning.{Meaning, Moves}
 use Rattle.automata.specs.Noted.{meaning as noted_meaning, moves as noted_moves}
 use Rattle.automata.specs.Storing.{meaning as stored_meaning, moves as stored_moves}
 use Rattle.base.specs.Book.{Terms, blank, course, drains, Nested}
-use Rattle.base.specs.Courses.{cause_of, laid}
+use Rattle.base.specs.Courses.{end_of, laid}
 use Rattle.base.specs.History.{Totalled, terms}
 use Rattle.base.specs.Picks.{paths, PickedExactly}
 use Rattle.base.specs.Promises.{BeginPromise, DrainPromise, EndPromise}
@@ -26,7 +26,7 @@ use Rattle.choosing.specs.declared.reading.Reading.{Reading}
 pub record Booked (t : Terms) (source : Source) (list list' : List ℕ) (r : Reading) : Type 0 where
   pub offered : r.drained.offered ≡ (course t blank source.waiting).offered
   pub picks : r.drained.picks ≡ length (course t blank source.waiting).picks
-  pub cause : r.drained.cause ≡ cause_of (course t blank source.waiting) source.ending
+  pub end : r.drained.end ≡ end_of (course t blank source.waiting) source.ending
   pub written : list' ≡ laid (course t blank source.waiting).picks list
   pub totalled : Totalled (drains t blank source.waiting) r.totals
   -- and the picked elements are those whose path is wanted, each once, in opening order

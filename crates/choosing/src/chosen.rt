@@ -4,14 +4,13 @@ ghost use Rattle.choosing.specs.Choices.{Begins};
 
 use crate::kind::SelectorKind;
 use crate::reading::Reading;
+use base::selector::MAX_LEVELS;
 use base::source::TagSource;
 use base::stack_selector::StackSelector;
 use base::table::Table;
 use grading::registerless::RegisterlessSelector;
 use grading::stackless::StacklessSelector;
 use text::refusal::Refusal;
-
-const MOST_LEVELS: u32 = 65_535;
 
 /// A selector as far as it is made without lent memory.
 #[derive(Drop)]
@@ -60,8 +59,8 @@ impl<'a> Chosen<'a> {
         ensures { result ≡ carry_of self.now.made stack.now }
     {
         match self.made {
-            Made::Registerless(_) | Made::Stackless(_) => MOST_LEVELS,
-            Made::Stack => stack.len().min(MOST_LEVELS as usize) as u32,
+            Made::Registerless(_) | Made::Stackless(_) => u32::from(MAX_LEVELS),
+            Made::Stack => stack.len().min(usize::from(MAX_LEVELS)) as u32,
         }
     }
 
