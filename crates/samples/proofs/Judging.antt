@@ -6,7 +6,7 @@ use Rattle.automata.specs.Grades.{Registerless, Stackless}
 use Rattle.automata.specs.Numbering.{met_in_row, met, FirstMet}
 use Rattle.automata.specs.States.{Internal, Equivalent, Almost, Reaches}
 use Rattle.automata.proofs.Words.{internal_below}
-use Rattle.base.specs.Every.{every}
+use Rattle.std.specs.List.{list_all}
 use Rattle.grading.specs.Grading.{Earns}
 use Rattle.grading.specs.declared.grade.Grade.{Grade}
 use Rattle.samples.proofs.Testing.{below, below_at, word_of}
@@ -47,9 +47,9 @@ module _ (A : Automaton) (f : WellFormed A) where
   pairs_at test h p q i j = below_at A.states (test p) (below_at A.states (λ p. below A.states (test p)) h p i) q j
 
   -- the word for each state leads to it
-  pub reached_by : (words : List (List ℕ)) → below A.states (λ p. every (λ a. ltb a A.labels) (get_or words p []) && eqb (run A A.start (get_or words p [])) p) ≡ true → (p : ℕ) → p < A.states → Reaches A A.start p
+  pub reached_by : (words : List (List ℕ)) → below A.states (λ p. list_all (λ a. ltb a A.labels) (get_or words p []) && eqb (run A A.start (get_or words p [])) p) ≡ true → (p : ℕ) → p < A.states → Reaches A A.start p
   reached_by words h p i =
-      let t = and_parts _ _ (below_at A.states (λ p. every (λ a. ltb a A.labels) (get_or words p []) && eqb (run A A.start (get_or words p [])) p) h p i) in
+      let t = and_parts _ _ (below_at A.states (λ p. list_all (λ a. ltb a A.labels) (get_or words p []) && eqb (run A A.start (get_or words p [])) p) h p i) in
       record { by = get_or words p []; word = word_of A.labels (get_or words p []) t.0; leads = eqb-true _ _ t.1 }
 
   pub numbered_by : A.start ≡ 0 → below A.states (λ p. below A.labels (λ a. leb (A.step p a) (met_in_row (A.step p) (met A.labels A.step p) a))) ≡ true → met A.labels A.step A.states ≡ A.states → FirstMet A
@@ -62,7 +62,7 @@ module _ (A : Automaton) (f : WellFormed A) where
   -- one of the words tells p from q
   abbrev pub told : List (List ℕ) → ℕ → ℕ → Bool
   told [] p q = false
-  told (w ∷ words) p q = (every (λ a. ltb a A.labels) w && unlike (A.yes (run A p w)) (A.yes (run A q w))) || told words p q
+  told (w ∷ words) p q = (list_all (λ a. ltb a A.labels) w && unlike (A.yes (run A p w)) (A.yes (run A q w))) || told words p q
 
   told_differ : (words : List (List ℕ)) (p q : ℕ) → told words p q ≡ true → Equivalent A p q → ⊥
   told_differ [] p q h e = true≢false (sym h)

@@ -8,7 +8,7 @@ use Rattle.automata.specs.Meaning.{Meaning, Moves, Rules}
 use Rattle.automata.specs.Minimising.{Minimised}
 use Rattle.automata.specs.declared.tag.Tag.{Tag}
 use Rattle.automata.proofs.Alike.{accepts_alike}
-use Rattle.base.specs.Every.{every}
+use Rattle.std.specs.List.{list_all}
 use Rattle.base.specs.History.{terms}
 use Rattle.text.specs.NameLists.{all_names}
 use Rattle.paths.specs.declared.path.Step.{Step}
@@ -50,9 +50,9 @@ module _ (steps : List Step) (n : ℕ) where
 
   -- words over the labels, each to a set of its own
   abbrev Differ : List (List ℕ) → Type 0
-  Differ words = (every (every (λ a. ltb a n)) words ≡ true) × (below (length words) (λ p. eqb (index (get_or (sets words) p 0) (sets words)) p) ≡ true)
+  Differ words = (list_all (list_all (λ a. ltb a n)) words ≡ true) × (below (length words) (λ p. eqb (index (get_or (sets words) p 0) (sets words)) p) ≡ true)
 
-  reached_at : (words : List (List ℕ)) → every (every (λ a. ltb a n)) words ≡ true → (p : ℕ) → p < length words → Reached steps n (get_or (sets words) p 0)
+  reached_at : (words : List (List ℕ)) → list_all (list_all (λ a. ltb a n)) words ≡ true → (p : ℕ) → p < length words → Reached steps n (get_or (sets words) p 0)
   reached_at [] h p l = absurd (omega arith)
   reached_at (w ∷ words) h zero l = reached_moves steps n w start_set (word_of n w (and_parts _ _ h).0) at_start
   reached_at (w ∷ words) h (suc p) l = reached_at words (and_parts _ _ h).1 p (omega arith)
@@ -142,14 +142,14 @@ fits_in a x b = leb a x && leb x b
 
 -- the words are names, and there is not too much of it
 abbrev reads : List (List ℕ) → List (Bool × List ℕ) → Bool
-reads names xs = (all_names names && every (λ x. is_some (test_of names x.1)) xs) && (fits_in 1 (length (text_of xs)) 200 && leb (length (steps_in names xs)) 15)
+reads names xs = (all_names names && list_all (λ x. is_some (test_of names x.1)) xs) && (fits_in 1 (length (text_of xs)) 200 && leb (length (steps_in names xs)) 15)
 
 module _ (names : List (List ℕ)) where
   stands : (o : Option Test) → is_some o ≡ true → o ≡ Some (or_any o)
   stands (Some t) h = refl
   stands None h = absurd (both_ways _ refl h)
 
-  written : (xs : List (Bool × List ℕ)) → every (λ x. is_some (test_of names x.1)) xs ≡ true → Written names (steps_in names xs) (text_of xs)
+  written : (xs : List (Bool × List ℕ)) → list_all (λ x. is_some (test_of names x.1)) xs ≡ true → Written names (steps_in names xs) (text_of xs)
   written [] h = refl
   written (x ∷ xs) h = (slashes x.0 ++ x.1, text_of xs, refl, record { word = x.1; whole = refl; stands = stands (test_of names x.1) (and_parts _ _ h).0 }, written xs (and_parts _ _ h).1)
 
@@ -182,7 +182,7 @@ module _ (names : List (List ℕ)) where
         }
 
     -- what every minimal automaton of it accepts is what that automaton does
-    pub accepts_by : Differ (steps_in names xs) (length names) words → Whole (steps_in names xs) (length names) words → length words ≤ 32 → (A B : Automaton) → Compiled (steps_in names xs) (length names) A → Minimised A B → (v : List ℕ) → every (λ a. ltb a (length names)) v ≡ true → accepts B v ≡ accepts (made (steps_in names xs) (length names) words) v
+    pub accepts_by : Differ (steps_in names xs) (length names) words → Whole (steps_in names xs) (length names) words → length words ≤ 32 → (A B : Automaton) → Compiled (steps_in names xs) (length names) A → Minimised A B → (v : List ℕ) → list_all (λ a. ltb a (length names)) v ≡ true → accepts B v ≡ accepts (made (steps_in names xs) (length names) words) v
     accepts_by d w few A B c m v h =
         let M = made (steps_in names xs) (length names) words in
         let same = alike (steps_in names xs) (length names) A M c (compiled (steps_in names xs) (length names) words d w few) in
@@ -190,7 +190,7 @@ module _ (names : List (List ℕ)) where
         m.accepts v word ∙ sym (accepts_alike A M c.formed same v word)
 
     -- and what a run of a selector comes to, by what its query wants
-    pub path_reads : reads names xs ≡ true → {S : Type 0} (m : Meaning S) (v : Moves S) → Rules m v → (runs : S → Automaton) (begins : Automaton → S → Type 0) → ((A : Automaton) (s : S) → begins A s → Minimised A (runs s)) → ((s : S) → terms m s 65535 ≡ record { limit = 65535; labels = (runs s).labels; carry = 65535; wants = accepts (runs s) }) → (tags : List Tag) (picked : List ℕ) (opened : ℕ) (ended : Bool) → ((A B : Automaton) → Compiled (steps_in names xs) (length names) A → Minimised A B → Booked (record { limit = 65535; labels = length names; carry = 65535; wants = accepts B }) tags picked opened ended) → PathReads m v begins names (text_of xs) tags picked opened ended
+    pub path_reads : reads names xs ≡ true → {S : Type 0} (m : Meaning S) (v : Moves S) → Rules m v → (runs : S → Automaton) (begins : Automaton → S → Type 0) → ((A : Automaton) (s : S) → begins A s → Minimised A (runs s)) → ((s : S) → terms m s 65535 ≡ record { limit = 65535; labels = (runs s).labels; carry = 65535; wants = accepts (runs s) }) → (tags : List (Tag ℕ)) (picked : List ℕ) (opened : ℕ) (ended : Bool) → ((A B : Automaton) → Compiled (steps_in names xs) (length names) A → Minimised A B → Booked (record { limit = 65535; labels = length names; carry = 65535; wants = accepts B }) tags picked opened ended) → PathReads m v begins names (text_of xs) tags picked opened ended
     path_reads r m v rules runs begins minimised same tags picked opened ended booked = record {
       steps = steps_in names xs;
       read = read_in xs r;

@@ -1,9 +1,11 @@
 -- The tables of two table texts, and their minimal automata.
-use Rattle.std.proofs.Common.{◌≡◌, ℕ, ◌-◌, true, false, eqb, ltb, List, [], ◌∷◌, length, get_or, take, replicate, sym, refl, ap, ◌∙◌, arith}
+use Rattle.std.proofs.Common.{◌≡◌, ℕ, ◌-◌, ◌<◌, true, false, eqb, ltb, List, [], ◌∷◌, length, take, replicate, sym, refl, ap, ◌∙◌, arith}
 use Rattle.std.specs.Fmt.{digits}
 use Rattle.std.proofs.lemmas.Bool.{eqb-true, ltb-true}
 use Rattle.automata.specs.Automata.{Automaton, Word, WellFormed, run}
 use Rattle.base.specs.Tables.{automaton}
+use Rattle.base.specs.Rows.{no_row, target}
+use Rattle.base.specs.declared.table.Row.{Row}
 use Rattle.base.specs.declared.table.Table.{Table}
 use Rattle.formats.specs.declared.table_text.TableText.{TableText}
 use Rattle.grading.specs.declared.grade.Grade.TheVariants.{Registerless}
@@ -16,7 +18,7 @@ use Rattle.samples.proofs.Testing.{below, below_at}
 
 -- a name of one byte
 abbrev letter : (b : ℕ) → is_name (b ∷ []) ≡ true → Name
-letter b rule = record { bytes = b ∷ replicate 15 0; len = 1; fits = omega arith; rule = rule }
+letter b rule = record { bytes = record { places = b ∷ replicate 15 0; len = 1; fits = omega arith }; rule = rule }
 
 abbrev a : Name
 a = letter 97 refl
@@ -24,20 +26,27 @@ a = letter 97 refl
 abbrev b : Name
 b = letter 98 refl
 
+-- rows whose targets are among the states
+closed_by : (rows : List Row) (states labels : ℕ) → below states (λ p. below labels (λ l. ltb (target rows p l) states)) ≡ true → (p l : ℕ) → p < states → l < labels → target rows p l < states
+closed_by rows states labels h p l i k =
+    ltb-true _ _ (below_at labels (λ l. ltb (target rows p l) states) (below_at states (λ p. below labels (λ l. ltb (target rows p l) states)) h p i) l k)
+
+abbrev turning_rows : List Row
+turning_rows = record { targets = 1 ∷ 0 ∷ replicate 14 0; accepts = true } ∷ record { targets = 0 ∷ 1 ∷ replicate 14 0; accepts = false } ∷ replicate 30 no_row
+
 abbrev turning_table : Table
 turning_table = record {
   labels = 2;
   states = 2;
   start = 0;
-  targets = (1 ∷ 0 ∷ replicate 14 0) ∷ (0 ∷ 1 ∷ replicate 14 0) ∷ replicate 30 (replicate 16 0);
-  accepting = true ∷ false ∷ replicate 30 false;
+  rows = turning_rows;
   sized = (omega arith, omega arith, omega arith, omega arith, omega arith);
-  closed = λ p l h k. ltb-true _ _ (below_at 2 (λ l. ltb (get_or (get_or ((1 ∷ 0 ∷ replicate 14 0) ∷ (0 ∷ 1 ∷ replicate 14 0) ∷ replicate 30 (replicate 16 0)) p []) l 0) 2) (below_at 2 (λ p. below 2 (λ l. ltb (get_or (get_or ((1 ∷ 0 ∷ replicate 14 0) ∷ (0 ∷ 1 ∷ replicate 14 0) ∷ replicate 30 (replicate 16 0)) p []) l 0) 2)) refl p h) l k);
+  closed = closed_by turning_rows 2 2 refl;
 }
 
 abbrev turning_read : TableText
 turning_read = record {
-  labels = record { names = a ∷ b ∷ replicate 14 a; count = 2; some = omega arith; fits = omega arith; counted = refl; apart = refl };
+  labels = record { names = record { places = a ∷ b ∷ replicate 14 a; len = 2; fits = omega arith }; some = omega arith; apart = refl };
   table = turning_table;
 }
 
@@ -60,20 +69,22 @@ turning_graded =
           (registerless_by A f (λ _. true) (λ p q. unlike (eqb p 0) (eqb q 0)) refl refl refl);
     }
 
+abbrev idle_rows : List Row
+idle_rows = record { targets = replicate 16 0; accepts = true } ∷ record { targets = replicate 16 0; accepts = false } ∷ replicate 30 no_row
+
 abbrev idle_table : Table
 idle_table = record {
   labels = 1;
   states = 2;
   start = 0;
-  targets = replicate 32 (replicate 16 0);
-  accepting = true ∷ replicate 31 false;
+  rows = idle_rows;
   sized = (omega arith, omega arith, omega arith, omega arith, omega arith);
-  closed = λ p l h k. ltb-true _ _ (below_at 1 (λ l. ltb (get_or (get_or (replicate 32 (replicate 16 0)) p []) l 0) 2) (below_at 2 (λ p. below 1 (λ l. ltb (get_or (get_or (replicate 32 (replicate 16 0)) p []) l 0) 2)) refl p h) l k);
+  closed = closed_by idle_rows 2 1 refl;
 }
 
 abbrev idle_read : TableText
 idle_read = record {
-  labels = record { names = replicate 16 a; count = 1; some = omega arith; fits = omega arith; counted = refl; apart = refl };
+  labels = record { names = record { places = replicate 16 a; len = 1; fits = omega arith }; some = omega arith; apart = refl };
   table = idle_table;
 }
 

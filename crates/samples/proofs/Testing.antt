@@ -2,7 +2,7 @@
 use Rattle.std.proofs.Common.{◌≡◌, ℕ, zero, suc, ◌<◌, ◌≤◌, Bool, true, ◌&&◌, ltb, List, [], ◌∷◌, subst, ⊎_elim, arith}
 use Rattle.std.proofs.lemmas.Bool.{and_parts, ltb-true, cases_lt}
 use Rattle.automata.specs.Automata.{Word}
-use Rattle.base.specs.Every.{every}
+use Rattle.std.specs.List.{list_all}
 
 -- a test of each number below n
 abbrev pub below : ℕ → (ℕ → Bool) → Bool
@@ -16,6 +16,6 @@ below_at (suc n) test h a l = ⊎_elim
     (λ (past : n ≤ a). let e : n ≡ a = omega arith in subst (λ x. test x ≡ true) e (and_parts _ _ h).0)
     (cases_lt a n)
 
-pub word_of : (n : ℕ) (w : List ℕ) → every (λ a. ltb a n) w ≡ true → Word n w
+pub word_of : (n : ℕ) (w : List ℕ) → list_all (λ a. ltb a n) w ≡ true → Word n w
 word_of n [] h = tt
 word_of n (a ∷ w) h = (ltb-true a n (and_parts _ _ h).0, word_of n w (and_parts _ _ h).1)

@@ -67,11 +67,11 @@ idle = lines (
     (codes "row" ∷ codes "1" ∷ codes "no" ∷ codes "0" ∷ []) ∷ []) []
 
 -- +a +a -a +b
-abbrev pub going_back : List Tag
+abbrev pub going_back : List (Tag ℕ)
 going_back = Open 0 ∷ Open 0 ∷ Close 0 ∷ Open 1 ∷ []
 
 -- +a +c -c +b +c -c -b +b -b -a
-abbrev pub between : List Tag
+abbrev pub between : List (Tag ℕ)
 between = Open 0 ∷ Open 2 ∷ Close 2 ∷ Open 1 ∷ Open 2 ∷ Close 2 ∷ Close 1 ∷ Open 1 ∷ Close 1 ∷ Close 0 ∷ []
 
 pub record Samples : Type 0 where
