@@ -1,7 +1,6 @@
 pub mod Digits
 pub mod Gathering
 pub mod Cells
-pub mod Tabulated
 pub mod Indexing
 pub mod Blanks
 pub mod Rounds
