@@ -2,8 +2,6 @@
 ghost use Rattle.samples.specs.Samples.{Samples};
 
 /// The states and grades of some paths and tables.
-pub fn samples() -> u8
+pub fn samples()
     ensures { Samples }
-{
-    0
-}
+{}
