@@ -3,12 +3,14 @@
 
 mod grade;
 mod options;
+mod outcome;
 mod pick;
 mod query;
 mod report;
 mod stop;
 
-use crate::options::{Command, parse};
+use crate::options::Command;
+use crate::outcome::Outcome;
 use crate::stop::Stop;
 use std::env;
 use std::process::ExitCode;
@@ -29,30 +31,25 @@ what it did. The query is a path over labels, or a table.
 examples:
   pintleapple pick --labels roast.labels --path //hold//air roast.tags
   pintleapple pick --table hold-air.table --limit 12 roast.tags
-  pintleapple pick --table hold-air.table --packed roast.bin
-";
+  pintleapple pick --table hold-air.table --packed roast.bin";
 
 fn main(rt: HostRuntime) -> anyhow::Result<ExitCode> {
-    match run(&rt) {
-        Ok(true) => Ok(ExitCode::SUCCESS),
-        Ok(false) | Err(Stop::Text(_)) => Ok(ExitCode::FAILURE),
+    let words: Vec<String> = env::args(&rt)?.skip(1).collect(rt.alloc())?;
+    match run(&rt, words.as_slice()) {
+        Ok(outcome) => Ok(outcome.into()),
         Err(Stop::System(error)) => Err(error),
+        Err(stop) => {
+            eprintln!(&rt; "{stop}")?;
+            Ok(ExitCode::FAILURE)
+        }
     }
 }
 
-// Whether all went well; what did not was told on standard error.
-fn run(rt: &HostRuntime) -> Result<bool, Stop> {
-    let words: Vec<String> = env::args(rt)?.skip(1).collect(rt.alloc())?;
-    match parse(words.as_slice()) {
-        Some(Command::Help) => {
-            print!(rt; "{USAGE}")?;
-            Ok(true)
-        }
-        Some(Command::Pick(options)) => pick::pick(rt, options),
-        Some(Command::Grade(query)) => grade::grade(rt, query),
-        None => {
-            eprint!(rt; "{USAGE}")?;
-            Ok(false)
-        }
+fn run<'a>(rt: &HostRuntime, words: &'a [String]) -> Result<Outcome, Stop<'a>> {
+    match Command::parse(words).ok_or(Stop::Words)? {
+        Command::Help => println!(rt; "{USAGE}")?,
+        Command::Pick(options) => return pick::pick(rt, options),
+        Command::Grade(query) => grade::grade(rt, query)?,
     }
+    Ok(Outcome::Sound)
 }

@@ -1,4 +1,6 @@
 //! What the arguments ask for.
+use std::fmt;
+use std::str::FromStr;
 
 /// Where a query comes from.
 #[derive(Clone, Copy)]
@@ -11,10 +13,37 @@ pub enum Query<'a> {
 
 /// The selectors, the least first.
 #[derive(Clone, Copy)]
-pub enum SelectorName {
+pub enum SelectorKind {
     Registerless,
     Stackless,
     Stack,
+}
+
+/// A word that names no selector.
+#[derive(Clone, Copy)]
+pub struct UnknownSelector;
+
+impl FromStr for SelectorKind {
+    type Err = UnknownSelector;
+
+    fn from_str(word: &str) -> Result<Self, UnknownSelector> {
+        match word {
+            "registerless" => Ok(SelectorKind::Registerless),
+            "stackless" => Ok(SelectorKind::Stackless),
+            "stack" => Ok(SelectorKind::Stack),
+            _ => Err(UnknownSelector),
+        }
+    }
+}
+
+impl fmt::Display for SelectorKind {
+    fn fmt<W: fmt::Write>(&self, f: &mut fmt::Formatter<W>) -> fmt::Result {
+        f.write_str(match self {
+            SelectorKind::Registerless => "registerless",
+            SelectorKind::Stackless => "stackless",
+            SelectorKind::Stack => "stack",
+        })
+    }
 }
 
 /// A document to pick from; without a selector's name, the stack selector picks.
@@ -24,7 +53,7 @@ pub struct PickOptions<'a> {
     pub document: &'a str,
     pub packed: bool,
     pub limit: Option<u32>,
-    pub selector: Option<SelectorName>,
+    pub selector: Option<SelectorKind>,
 }
 
 /// One call of the program.
@@ -35,128 +64,74 @@ pub enum Command<'a> {
     Grade(Query<'a>),
 }
 
-/// The command of the words after the program's name; none where they are wrong.
-pub fn parse(words: &[String]) -> Option<Command<'_>> {
-    match words.first()?.as_str() {
-        "--help" => Some(Command::Help),
-        "pick" => Some(Command::Pick(pick_options(sorted(&words[1..])?)?)),
-        "grade" => Some(Command::Grade(grade_query(sorted(&words[1..])?)?)),
-        _ => None,
+impl<'a> Command<'a> {
+    /// The command of the words after the program's name; none where they are wrong.
+    pub fn parse(words: &'a [String]) -> Option<Command<'a>> {
+        let (command, rest) = words.split_first()?;
+        match command.as_str() {
+            "--help" => Some(Command::Help),
+            "pick" => Some(Command::Pick(Arguments::parse(rest)?.pick_options()?)),
+            "grade" => Some(Command::Grade(Arguments::parse(rest)?.grade_query()?)),
+            _ => None,
+        }
     }
 }
 
 // The words after the command, each in its place.
-#[derive(Clone, Copy)]
+#[derive(Clone, Copy, Default)]
 struct Arguments<'a> {
     table: Option<&'a str>,
     labels: Option<&'a str>,
     path: Option<&'a str>,
     limit: Option<u32>,
-    selector: Option<SelectorName>,
+    selector: Option<SelectorKind>,
     packed: bool,
     document: Option<&'a str>,
 }
 
-// Whose value the next word is.
-#[derive(Clone, Copy)]
-enum Awaited {
-    Nothing,
-    Table,
-    Labels,
-    Path,
-    Limit,
-    Selector,
-}
-
-fn sorted(words: &[String]) -> Option<Arguments<'_>> {
-    let mut given = Arguments {
-        table: None,
-        labels: None,
-        path: None,
-        limit: None,
-        selector: None,
-        packed: false,
-        document: None,
-    };
-    let mut awaited = Awaited::Nothing;
-    for word in words {
-        let word = word.as_str();
-        match awaited {
-            Awaited::Table => given.table = Some(word),
-            Awaited::Labels => given.labels = Some(word),
-            Awaited::Path => given.path = Some(word),
-            Awaited::Limit => given.limit = Some(word.parse::<u32>().ok()?),
-            Awaited::Selector => given.selector = Some(selector_named(word)?),
-            Awaited::Nothing => {
-                if word == "--packed" {
-                    given.packed = true;
-                } else if !awaits(word) {
-                    if word.starts_with('-') || given.document.is_some() {
-                        return None;
-                    }
-                    given.document = Some(word);
-                }
+impl<'a> Arguments<'a> {
+    fn parse(words: &'a [String]) -> Option<Arguments<'a>> {
+        let mut given = Arguments::default();
+        let mut words = words.iter();
+        while let Some(word) = words.next() {
+            match word.as_str() {
+                "--table" => given.table = Some(words.next()?.as_str()),
+                "--labels" => given.labels = Some(words.next()?.as_str()),
+                "--path" => given.path = Some(words.next()?.as_str()),
+                "--limit" => given.limit = Some(words.next()?.parse().ok()?),
+                "--selector" => given.selector = Some(words.next()?.parse().ok()?),
+                "--packed" => given.packed = true,
+                word if word.starts_with('-') || given.document.is_some() => return None,
+                word => given.document = Some(word),
             }
         }
-        awaited = match awaited {
-            Awaited::Nothing => awaited_after(word),
-            _ => Awaited::Nothing,
-        };
+        Some(given)
     }
-    match awaited {
-        Awaited::Nothing => Some(given),
-        _ => None,
+
+    fn pick_options(self) -> Option<PickOptions<'a>> {
+        Some(PickOptions {
+            query: self.query()?,
+            document: self.document?,
+            packed: self.packed,
+            limit: self.limit,
+            selector: self.selector,
+        })
     }
-}
 
-// Whose value comes after the word.
-fn awaited_after(word: &str) -> Awaited {
-    match word {
-        "--table" => Awaited::Table,
-        "--labels" => Awaited::Labels,
-        "--path" => Awaited::Path,
-        "--limit" => Awaited::Limit,
-        "--selector" => Awaited::Selector,
-        _ => Awaited::Nothing,
+    fn grade_query(self) -> Option<Query<'a>> {
+        let picks = self.packed || self.limit.is_some() || self.selector.is_some();
+        if picks || self.document.is_some() {
+            return None;
+        }
+        self.query()
     }
-}
 
-fn awaits(word: &str) -> bool {
-    !matches!(awaited_after(word), Awaited::Nothing)
-}
-
-fn selector_named(word: &str) -> Option<SelectorName> {
-    match word {
-        "registerless" => Some(SelectorName::Registerless),
-        "stackless" => Some(SelectorName::Stackless),
-        "stack" => Some(SelectorName::Stack),
-        _ => None,
-    }
-}
-
-fn pick_options<'a>(given: Arguments<'a>) -> Option<PickOptions<'a>> {
-    Some(PickOptions {
-        query: one_query(given)?,
-        document: given.document?,
-        packed: given.packed,
-        limit: given.limit,
-        selector: given.selector,
-    })
-}
-
-fn grade_query<'a>(given: Arguments<'a>) -> Option<Query<'a>> {
-    let picks = given.packed || given.limit.is_some() || given.selector.is_some();
-    if picks || given.document.is_some() {
-        return None;
-    }
-    one_query(given)
-}
-
-// A table, or labels with a path, and not both.
-fn one_query<'a>(given: Arguments<'a>) -> Option<Query<'a>> {
-    match (given.table, given.labels, given.path) {
-        (Some(table), None, None) => Some(Query::Table(table)),
-        (None, Some(labels), Some(path)) => Some(Query::Path { labels, path }),
-        _ => None,
+    // A table, or labels with a path, and not both.
+    fn query(self) -> Option<Query<'a>> {
+        match (self.table, self.labels, self.path) {
+            (Some(table), None, None) => Some(Query::Table(table)),
+            (None, Some(labels), Some(path)) => Some(Query::Path { labels, path }),
+            _ => None,
+        }
     }
 }

@@ -1,7 +1,9 @@
 //! The command `pick`.
-use crate::options::{PickOptions, SelectorName};
+use crate::options::{PickOptions, SelectorKind};
+use crate::outcome::Outcome;
+use crate::query::{load, read_file};
+use crate::report;
 use crate::stop::Stop;
-use crate::{query, report};
 use base::lines::LineSource;
 use base::packed::PackedSource;
 use base::run::{Drained, Totals};
@@ -13,40 +15,26 @@ use formats::table_text::TableText;
 use grading::begun::{Begun, begin};
 use grading::registerless::RegisterlessSelector;
 use grading::stackless::StacklessSelector;
-use std::fs;
-use text::labels::Labels;
 use text::refusal::Refusal;
 
 // As many levels as any limit can ask for.
 const STACK_BYTES: usize = 65_535;
 
-/// Picks from a document, and prints what came of it; whether the document was whole and nothing was refused.
-pub fn pick(rt: &HostRuntime, options: PickOptions<'_>) -> Result<bool, Stop> {
-    let TableText { labels, table } = match query::load(rt, options.query)? {
-        Some(both) => both,
-        None => return Ok(false),
-    };
-    let document = match fs::read(rt, options.document) {
-        Ok(document) => document,
-        Err(error) => {
-            report::unreadable(rt, options.document, error)?;
-            return Ok(false);
-        }
-    };
-    let chosen = match choose(&table, options.selector) {
+/// Picks from a document, and prints what came of it.
+pub fn pick<'a>(rt: &HostRuntime, options: PickOptions<'a>) -> Result<Outcome, Stop<'a>> {
+    let query = load(rt, options.query)?;
+    let document = read_file(rt, options.document)?;
+    let chosen = match choose(&query.table, options.selector) {
         Ok(chosen) => chosen,
-        Err(refusal) => {
-            report::selector_refused(rt, refusal)?;
-            return Ok(false);
-        }
+        Err(refusal) => return Err(Stop::Selector(refusal)),
     };
-    match pick_by(rt, chosen, &table, &labels, document.as_slice(), options) {
-        Err(Stop::Text(refusal)) => {
-            report::text_refused(rt, options.document, refusal)?;
-            Ok(false)
-        }
-        done => done,
-    }
+    let job = Job {
+        rt,
+        query: &query,
+        document: document.as_slice(),
+        options,
+    };
+    job.pick_by(chosen)
 }
 
 // A selector that serves the query; the stack is lent later.
@@ -58,98 +46,88 @@ enum Chosen {
 }
 
 // The selector that was asked for, or else the stack selector; refuses one that does not serve.
-fn choose(table: &Table, wanted: Option<SelectorName>) -> Result<Chosen, Refusal> {
-    match wanted {
-        Some(SelectorName::Registerless) => {
-            Ok(Chosen::Registerless(RegisterlessSelector::new(table)?))
-        }
-        Some(SelectorName::Stackless) => Ok(Chosen::Stackless(StacklessSelector::new(table)?)),
-        Some(SelectorName::Stack) | None => Ok(Chosen::Stack),
+fn choose(table: &Table, wanted: Option<SelectorKind>) -> Result<Chosen, Refusal> {
+    match wanted.unwrap_or(SelectorKind::Stack) {
+        SelectorKind::Registerless => Ok(Chosen::Registerless(RegisterlessSelector::new(table)?)),
+        SelectorKind::Stackless => Ok(Chosen::Stackless(StacklessSelector::new(table)?)),
+        SelectorKind::Stack => Ok(Chosen::Stack),
     }
 }
 
-fn pick_by(
-    rt: &HostRuntime,
-    chosen: Chosen,
-    table: &Table,
-    labels: &Labels,
-    document: &[u8],
-    options: PickOptions<'_>,
-) -> Result<bool, Stop> {
-    match chosen {
-        Chosen::Registerless(selector) => {
-            pick_with(
-                rt,
-                "registerless",
-                table,
-                selector,
-                labels,
-                document,
-                options,
-            )
-        }
-        Chosen::Stackless(selector) => {
-            pick_with(rt, "stackless", table, selector, labels, document, options)
-        }
-        Chosen::Stack => {
-            let mut stack = vec![in rt.alloc(); 0u8; STACK_BYTES]?;
-            let bytes = stack.as_mut_slice();
-            pick_with_stack(rt, table, bytes, labels, document, options)
+// A document, and what is to be picked from it.
+#[derive(Clone, Copy)]
+struct Job<'d, 'a> {
+    rt: &'d HostRuntime,
+    query: &'d TableText,
+    document: &'d [u8],
+    options: PickOptions<'a>,
+}
+
+impl<'d, 'a> Job<'d, 'a> {
+    fn pick_by(self, chosen: Chosen) -> Result<Outcome, Stop<'a>> {
+        match chosen {
+            Chosen::Registerless(selector) => self.pick_with(SelectorKind::Registerless, selector),
+            Chosen::Stackless(selector) => self.pick_with(SelectorKind::Stackless, selector),
+            Chosen::Stack => {
+                let mut stack = vec![in self.rt.alloc(); 0u8; STACK_BYTES]?;
+                let selector = StackSelector::new(&self.query.table, stack.as_mut_slice());
+                self.pick_with(SelectorKind::Stack, selector)
+            }
         }
     }
-}
 
-fn pick_with_stack<'a>(
-    rt: &HostRuntime,
-    table: &'a Table,
-    stack: &'a mut [u8],
-    labels: &Labels,
-    document: &[u8],
-    options: PickOptions<'_>,
-) -> Result<bool, Stop> {
-    let selector = StackSelector::new(table, stack);
-    pick_with(rt, "stack", table, selector, labels, document, options)
-}
+    fn pick_with<S: Selector + Drop>(
+        self,
+        kind: SelectorKind,
+        selector: S,
+    ) -> Result<Outcome, Stop<'a>> {
+        let labels = &self.query.labels;
+        let document = self.document;
+        if self.options.packed {
+            self.pick_from(kind, selector, || PackedSource::new(document))
+        } else {
+            self.pick_from(kind, selector, || LineSource::new(labels, document))
+        }
+    }
 
-fn pick_with<'a, S: Selector + Drop>(
-    rt: &HostRuntime,
-    name: &str,
-    table: &Table,
-    selector: S,
-    labels: &'a Labels,
-    document: &'a [u8],
-    options: PickOptions<'_>,
-) -> Result<bool, Stop> {
-    let limit = options.limit.unwrap_or(selector.carry());
-    let mut list = vec![in rt.alloc(); 0u32; document.len()]?;
-    let (drained, totals) = if options.packed {
-        let mut source = PackedSource::new(document)?;
-        let reading = read_through(table, selector, limit, &mut source, list.as_mut_slice());
-        let mut again = PackedSource::new(document)?;
+    // Picks from the source that is made; it is made once more for the paths of the picked elements.
+    fn pick_from<S: Selector + Drop, T: TagSource + Drop, F: Fn() -> Result<T, Refusal>>(
+        self,
+        kind: SelectorKind,
+        selector: S,
+        make: F,
+    ) -> Result<Outcome, Stop<'a>>
+        requires { F.IsAlwaysCallable make }
+    {
+        let path = self.options.document;
+        let refused = |refusal| Stop::Text { path, refusal };
+        let limit = self.options.limit.unwrap_or(selector.carry());
+        let mut picks = vec![in self.rt.alloc(); 0u32; self.document.len()]?;
+        let mut source = make().map_err(refused)?;
+        let (drained, totals) = read_through(
+            &self.query.table,
+            selector,
+            limit,
+            &mut source,
+            picks.as_mut_slice(),
+        );
+        picks.truncate(drained.picks as usize);
+        let mut again = make().map_err(refused)?;
         report::picks(
-            rt,
-            name,
-            labels,
+            self.rt,
+            kind,
+            &self.query.labels,
             &mut again,
-            taken(list.as_slice(), reading.0.picks),
+            picks.as_slice(),
         )?;
-        reading
-    } else {
-        let mut source = LineSource::new(labels, document)?;
-        let reading = read_through(table, selector, limit, &mut source, list.as_mut_slice());
-        let mut again = LineSource::new(labels, document)?;
-        report::picks(
-            rt,
-            name,
-            labels,
-            &mut again,
-            taken(list.as_slice(), reading.0.picks),
-        )?;
-        reading
-    };
-    let clean = report::cause(rt, options.document, drained.cause)?;
-    report::totals(rt, totals)?;
-    Ok(clean && totals.whole)
+        let clean = report::cause(self.rt, path, drained.cause)?;
+        report::totals(self.rt, totals)?;
+        if clean && totals.whole {
+            Ok(Outcome::Sound)
+        } else {
+            Ok(Outcome::Flawed)
+        }
+    }
 }
 
 // A whole run over the source.
@@ -165,10 +143,4 @@ fn read_through<S: Selector + Drop, T: TagSource>(
     let (totals, selector) = run.end();
     drop(selector);
     (drained, totals)
-}
-
-// The places of the list that a drain filled.
-fn taken(list: &[u32], picks: u32) -> &[u32] {
-    let count = (picks as usize).min(list.len());
-    &list[0..count]
 }
