@@ -1,10 +1,11 @@
 //! The command `grade`.
-use crate::options::{Query, SelectorKind};
+use crate::options::Query;
 use crate::query::load;
 use crate::report;
 use crate::stop::Stop;
 use base::stack_selector::StackSelector;
 use base::table::Table;
+use choosing::kind::SelectorKind;
 use grading::clash::clash_of;
 use grading::grade::Graded;
 use grading::registerless::RegisterlessSelector;

@@ -1,6 +1,5 @@
 //! What the arguments ask for.
-use std::fmt;
-use std::str::FromStr;
+use choosing::kind::SelectorKind;
 
 /// Where a query comes from.
 #[derive(Clone, Copy)]
@@ -11,49 +10,14 @@ pub enum Query<'a> {
     Path { labels: &'a str, path: &'a str },
 }
 
-/// The selectors, the least first.
-#[derive(Clone, Copy)]
-pub enum SelectorKind {
-    Registerless,
-    Stackless,
-    Stack,
-}
-
-/// A word that names no selector.
-#[derive(Clone, Copy)]
-pub struct UnknownSelector;
-
-impl FromStr for SelectorKind {
-    type Err = UnknownSelector;
-
-    fn from_str(word: &str) -> Result<Self, UnknownSelector> {
-        match word {
-            "registerless" => Ok(SelectorKind::Registerless),
-            "stackless" => Ok(SelectorKind::Stackless),
-            "stack" => Ok(SelectorKind::Stack),
-            _ => Err(UnknownSelector),
-        }
-    }
-}
-
-impl fmt::Display for SelectorKind {
-    fn fmt<W: fmt::Write>(&self, f: &mut fmt::Formatter<W>) -> fmt::Result {
-        f.write_str(match self {
-            SelectorKind::Registerless => "registerless",
-            SelectorKind::Stackless => "stackless",
-            SelectorKind::Stack => "stack",
-        })
-    }
-}
-
-/// A document to pick from; without a selector's name, the stack selector picks.
+/// A document to pick from.
 #[derive(Clone, Copy)]
 pub struct PickOptions<'a> {
     pub query: Query<'a>,
     pub document: &'a str,
     pub packed: bool,
     pub limit: Option<u32>,
-    pub selector: Option<SelectorKind>,
+    pub selector: SelectorKind,
 }
 
 /// One call of the program.
@@ -108,13 +72,14 @@ impl<'a> Arguments<'a> {
         Some(given)
     }
 
+    // Without a selector's name, the stack selector picks.
     fn pick_options(self) -> Option<PickOptions<'a>> {
         Some(PickOptions {
             query: self.query()?,
             document: self.document?,
             packed: self.packed,
             limit: self.limit,
-            selector: self.selector,
+            selector: self.selector.unwrap_or(SelectorKind::Stack),
         })
     }
 

@@ -1,10 +1,10 @@
 //! What the program prints.
-use crate::options::SelectorKind;
 use crate::stop::rule;
 use automata::tag::Tag;
 use base::run::{Cause, Totals};
 use base::source::{Ending, Next, TagSource};
 use base::table::Table;
+use choosing::kind::SelectorKind;
 use grading::clash::Clash;
 use grading::grade::{Grade, Graded};
 use std::str::from_utf8;
