@@ -1,8 +1,11 @@
 //! The book of a run: what it ought to answer, kept from the tags alone.
-use crate::answers::{Answer, Cause};
-use crate::document::{Reading, Tag};
+use crate::answers::Answer;
+use crate::document::{Reading, label_of};
 use crate::wanted::Wanted;
+use automata::tag::Tag;
+use base::run::{Cause, Drained, Opened, Totals};
 use std::alloc::{AllocError, Global};
+use text::refusal::Refusal;
 
 /// What a run is begun with: the labels and the levels that its selector has, and the limit.
 #[derive(Clone, Copy)]
@@ -29,10 +32,8 @@ pub struct Book<'a> {
     wanted: &'a Wanted,
     terms: Terms,
     path: Vec<u8>,
-    openings: u32,
-    picks: u32,
-    // whether the root was closed
-    whole: bool,
+    /// What the run amounts to so far.
+    pub totals: Totals,
     /// Whether each closing that was taken bore its element's label.
     pub nested: bool,
 }
@@ -45,58 +46,52 @@ impl<'a> Book<'a> {
             wanted,
             terms,
             path: Vec::new(heap),
-            openings: 0,
-            picks: 0,
-            whole: false,
+            totals: Totals {
+                openings: 0,
+                picks: 0,
+                whole: false,
+            },
             nested: true,
         }
     }
 
-    // The number of the first rule that refuses the tag.
-    fn refusal(&self, tag: Tag) -> Option<u8> {
+    // Refuses the tag by the first rule that it breaks.
+    fn check(&self, tag: Tag) -> Result<(), Refusal> {
         let limit = self.terms.limit;
         if limit < 1 || limit > 65_535 || limit > self.terms.carry {
-            return Some(15);
+            return Err(Refusal::Limit);
         }
-        if tag.label() >= self.terms.labels {
-            return Some(16);
+        if label_of(tag) >= self.terms.labels {
+            return Err(Refusal::Label);
         }
-        if !tag.opens() {
-            return if self.path.is_empty() { Some(20) } else { None };
+        match tag {
+            Tag::Open(_) if self.totals.whole => Err(Refusal::AfterRoot),
+            Tag::Open(_) if self.path.len() >= limit as usize => Err(Refusal::TooDeep),
+            Tag::Open(_) if self.totals.openings >= 1_000_000 => Err(Refusal::TooMany),
+            Tag::Close(_) if self.path.is_empty() => Err(Refusal::NothingOpen),
+            _ => Ok(()),
         }
-        if self.whole {
-            return Some(17);
-        }
-        if self.path.len() >= limit as usize {
-            return Some(18);
-        }
-        if self.openings >= 1_000_000 {
-            return Some(19);
-        }
-        None
     }
 
     /// Takes the tag, or refuses it and stays as it is.
     pub fn take(&mut self, tag: Tag) -> Result<Answer, AllocError> {
-        if let Some(number) = self.refusal(tag) {
-            return Ok(Answer::Refused(number));
+        if let Err(refusal) = self.check(tag) {
+            return Ok(Answer::Refused(refusal));
         }
         match tag {
-            Tag::Open(label) => self.opened(label),
+            Tag::Open(label) => Ok(Answer::Opened(self.opened(label)?)),
             Tag::Close(label) => Ok(self.closed(label)),
         }
     }
 
     // An element more is open, and picked where its path is wanted.
-    fn opened(&mut self, label: u8) -> Result<Answer, AllocError> {
-        let element = self.openings;
-        self.openings = self.openings.saturating_add(1);
+    fn opened(&mut self, label: u8) -> Result<Opened, AllocError> {
         self.path.push(label)?;
+        let element = self.totals.openings;
         let picked = self.wanted.wants(self.heap, self.path.as_slice())?;
-        if picked {
-            self.picks = self.picks.saturating_add(1);
-        }
-        Ok(Answer::Opened { element, picked })
+        self.totals.openings = element.saturating_add(1);
+        self.totals.picks = self.totals.picks.saturating_add(u32::from(picked));
+        Ok(Opened { element, picked })
     }
 
     // The last open element is closed.
@@ -104,7 +99,7 @@ impl<'a> Book<'a> {
         if self.path.pop() != Some(label) {
             self.nested = false;
         }
-        self.whole = self.path.is_empty();
+        self.totals.whole = self.path.is_empty();
         let left = u32::try_from(self.path.len()).unwrap_or(u32::MAX);
         Answer::Closed { left }
     }
@@ -114,39 +109,32 @@ impl<'a> Book<'a> {
         &mut self,
         reading: Reading<'_>,
         picked: &mut Vec<u32>,
-    ) -> Result<Answer, AllocError> {
-        let before = self.picks;
+    ) -> Result<Drained, AllocError> {
+        let before = self.totals.picks;
         let mut offered = 0u32;
-        let mut cause = reading.ending;
+        let mut cause = Cause::Ended(reading.ending);
         for tag in reading.tags {
             offered = offered.saturating_add(1);
             match self.take(*tag)? {
-                Answer::Opened {
-                    element,
-                    picked: true,
-                } => picked.push(element)?,
-                Answer::Refused(number) => {
+                Answer::Opened(
+                    Opened {
+                        element,
+                        picked: true,
+                    },
+                ) => picked.push(element)?,
+                Answer::Refused(refusal) => {
                     let tag = offered;
-                    cause = Cause::Refused { number, tag };
+                    cause = Cause::Refused { refusal, tag };
                     break;
                 }
                 _ => {}
             }
         }
-        let picks = self.picks.saturating_sub(before);
-        Ok(Answer::Drained {
+        let picks = self.totals.picks.saturating_sub(before);
+        Ok(Drained {
             offered,
             picks,
             cause,
         })
-    }
-
-    /// What the run amounted to.
-    pub fn totals(&self) -> Answer {
-        Answer::Ended {
-            openings: self.openings,
-            picks: self.picks,
-            whole: self.whole,
-        }
     }
 }

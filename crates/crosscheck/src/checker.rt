@@ -1,11 +1,17 @@
 //! Holds the library's answers to the expected ones, and shows where they differ.
-use crate::answers::{Answer, Grade};
+use crate::answers::Answer;
 use crate::book::Terms;
 use crate::document::Document;
-use crate::tally::{Chosen, Tally};
+use crate::tally::Tally;
 use crate::wanted::Wanted;
 use base::table::Table;
+use choosing::kind::SelectorKind;
+use grading::grade::Grade;
+use paths::path::Path;
+use std::fmt;
+use std::fmt::Display;
 use text::labels::Labels;
+use text::refusal::Refusal;
 
 // So many differences are shown in full, and the others only counted.
 const MOST_SHOWN: u32 = 3;
@@ -26,27 +32,53 @@ pub struct Query<'a> {
 pub struct Case<'a> {
     pub query: Query<'a>,
     pub document: &'a Document,
-    pub selector: Chosen,
+    pub selector: SelectorKind,
     pub terms: Terms,
     pub places: usize,
-    pub way: &'static str,
+    pub way: Way,
 }
 
-impl Case<'_> {
-    /// The same case in another way.
-    pub fn by(self, way: &'static str) -> Self {
-        Case { way, ..self }
+/// What is done with the library in a case: a selector is made, or a run of it drains the tag lines, the packed bytes, at once
+/// or in two halves, takes the tags by single calls, or drains the packed bytes until a million elements were opened.
+#[derive(Clone, Copy)]
+pub enum Way {
+    Making,
+    Lines,
+    Bytes,
+    Halves,
+    Calls,
+    Million,
+}
+
+impl fmt::Display for Way {
+    fn fmt<W: fmt::Write>(&self, f: &mut fmt::Formatter<W>) -> fmt::Result {
+        f.write_str(match self {
+            Way::Making => "making",
+            Way::Lines => "lines",
+            Way::Bytes => "bytes",
+            Way::Halves => "halves",
+            Way::Calls => "calls",
+            Way::Million => "a million openings",
+        })
     }
 }
 
 /// Where it prints, and what it counts.
 #[derive(Drop)]
-pub struct Checker<'a> {
-    pub rt: &'a HostRuntime,
+pub struct Checker {
+    pub rt: HostRuntime,
     pub tally: Tally,
 }
 
-impl Checker<'_> {
+impl Checker {
+    /// Nothing compared yet.
+    pub fn new(rt: HostRuntime) -> Checker {
+        Checker {
+            rt,
+            tally: Tally::default(),
+        }
+    }
+
     /// Holds an answer in a case to the expected one.
     pub fn hold(&mut self, case: Case<'_>, expected: Answer, got: Answer) -> anyhow::Result<()> {
         if self.agrees(expected, got) {
@@ -54,29 +86,49 @@ impl Checker<'_> {
         }
         let query = case.query.text;
         let way = case.way;
-        let selector = case.selector.name();
+        let selector = case.selector;
         let Terms {
             labels,
             carry,
             limit,
         } = case.terms;
-        let rt = self.rt;
+        let rt = &self.rt;
         println!(rt;
             "difference\tquery\t{query}\tlabels\t{labels}\tselector\t{selector}\tlevels\t{carry}\tlimit\t{limit}\tway\t{way}"
         )?;
         println!(rt; "expected\t{expected:?}\ngot\t{got:?}\ndocument")?;
-        let lines = case.document.lines.as_str();
-        println!(rt; "{lines}")?;
+        println!(rt; "{}", case.document.lines.as_str())?;
         Ok(())
     }
 
     /// Holds an answer that stands outside the generated runs to the expected one.
-    pub fn hold_fixed(&mut self, what: &str, expected: Answer, got: Answer) -> anyhow::Result<()> {
+    pub fn hold_fixed<D: Display + Drop>(
+        &mut self,
+        what: D,
+        expected: Answer,
+        got: Answer,
+    ) -> anyhow::Result<()> {
         if !self.agrees(expected, got) {
-            let rt = self.rt;
+            let rt = &self.rt;
             println!(rt; "difference\t{what}\nexpected\t{expected:?}\ngot\t{got:?}")?;
         }
         Ok(())
+    }
+
+    /// What ought to have been made; none where it was refused, which is a difference.
+    pub fn made<D: Display + Drop, T: Drop>(
+        &mut self,
+        what: D,
+        made: Result<T, Refusal>,
+    ) -> anyhow::Result<Option<T>> {
+        self.hold_fixed(what, Answer::Made, Answer::from(&made))?;
+        Ok(made.ok())
+    }
+
+    /// The table of a path.
+    pub fn table_of(&mut self, names: &Labels, text: &str) -> anyhow::Result<Option<Table>> {
+        let made = Path::read(names, text.as_bytes()).and_then(|path| path.table(names));
+        self.made(text, made)
     }
 
     // Whether there is nothing to show; a difference is counted.

@@ -1,12 +1,12 @@
 //! What can be wrong with a document.
-use crate::document::{Flaw, Tag};
+use crate::document::{Flaw, FlawedLine};
 use crate::random::Random;
+use automata::tag::Tag;
 use std::alloc::AllocFailed;
 
 /// Wrong tags, or a wrong line.
 #[derive(Clone, Copy)]
 pub enum Damage {
-    None,
     CutOff,
     ClosingTooMany,
     SecondRoot,
@@ -15,67 +15,81 @@ pub enum Damage {
     Line(Flaw),
 }
 
-/// Every kind of damage.
-pub const KINDS: [Damage; 14] = [
-    Damage::None,
-    Damage::CutOff,
-    Damage::ClosingTooMany,
-    Damage::SecondRoot,
-    Damage::UnknownLabel,
-    Damage::WrongClosing,
-    Damage::Line(Flaw::Empty),
-    Damage::Line(Flaw::NoTab),
-    Damage::Line(Flaw::WrongMark),
-    Damage::Line(Flaw::UpperCase),
-    Damage::Line(Flaw::NoName),
-    Damage::Line(Flaw::LongName),
-    Damage::Line(Flaw::NoNewline),
-    Damage::Line(Flaw::UnknownName),
+/// No damage, and every kind of it.
+pub const KINDS: [Option<Damage>; 14] = [
+    None,
+    Some(Damage::CutOff),
+    Some(Damage::ClosingTooMany),
+    Some(Damage::SecondRoot),
+    Some(Damage::UnknownLabel),
+    Some(Damage::WrongClosing),
+    Some(Damage::Line(Flaw::Empty)),
+    Some(Damage::Line(Flaw::NoTab)),
+    Some(Damage::Line(Flaw::WrongMark)),
+    Some(Damage::Line(Flaw::UpperCase)),
+    Some(Damage::Line(Flaw::NoName)),
+    Some(Damage::Line(Flaw::LongName)),
+    Some(Damage::Line(Flaw::NoNewline)),
+    Some(Damage::Line(Flaw::UnknownName)),
 ];
 
+/// Where damage is done: a place among the tags, and a label for what is put there.
+#[derive(Clone, Copy)]
+pub struct Spot {
+    at: usize,
+    label: u8,
+}
+
+impl Spot {
+    /// A random place, the last one at times.
+    pub fn any(random: &mut Random, labels: u8, tags: &[Tag]) -> Spot {
+        let last = tags.len().saturating_sub(1);
+        let at = if random.chance(20) {
+            last
+        } else {
+            random.below(u32::try_from(last).unwrap_or(u32::MAX)) as usize
+        };
+        let label = random.label(labels);
+        Spot { at, label }
+    }
+}
+
 impl Damage {
-    /// Damages the tags at a random place, or names the line that is to be damaged.
+    /// Damages the tags at a spot, or names the line that is to be damaged.
     pub fn apply(
         self,
         random: &mut Random,
         labels: u8,
+        spot: Spot,
         tags: &mut Vec<Tag>,
-    ) -> Result<Option<(usize, Flaw)>, AllocFailed<Tag>> {
-        let at = place(random, tags.as_slice());
-        let label = random.label(labels);
+    ) -> Result<Option<FlawedLine>, AllocFailed<Tag>> {
+        let Spot { at, label } = spot;
         match self {
-            Damage::None => {}
             Damage::CutOff => tags.truncate(at),
             Damage::ClosingTooMany => tags.push(Tag::Close(label))?,
             Damage::SecondRoot => {
                 tags.push(Tag::Open(label))?;
                 tags.push(Tag::Close(label))?;
             }
-            Damage::UnknownLabel => put_unknown(random, labels, tags, at),
+            Damage::UnknownLabel => put_label(tags, at, unknown(random, labels)),
             Damage::WrongClosing => change_closing(labels, tags, at),
-            Damage::Line(flaw) => return Ok(Some((at, flaw))),
+            Damage::Line(flaw) => return Ok(Some(FlawedLine { at, flaw })),
         }
         Ok(None)
     }
 }
 
-// A place among the tags, the last one at times.
-fn place(random: &mut Random, tags: &[Tag]) -> usize {
-    let last = tags.len().saturating_sub(1);
-    if random.chance(20) {
-        return last;
-    }
-    let spread = u32::try_from(last).unwrap_or(u32::MAX);
-    random.below(spread) as usize
-}
-
 // A label at or above the count, up to the highest that a byte takes.
-fn put_unknown(random: &mut Random, labels: u8, tags: &mut Vec<Tag>, at: usize) {
-    let label = if random.chance(50) {
+fn unknown(random: &mut Random, labels: u8) -> u8 {
+    if random.chance(50) {
         labels
     } else {
         random.label(127 - 16) | 16
-    };
+    }
+}
+
+// The tag at the place gets the label.
+fn put_label(tags: &mut Vec<Tag>, at: usize, label: u8) {
     if let Some(tag) = tags.get_mut(at) {
         *tag = match tag {
             Tag::Open(_) => Tag::Open(label),
@@ -88,11 +102,12 @@ fn put_unknown(random: &mut Random, labels: u8, tags: &mut Vec<Tag>, at: usize) 
 fn change_closing(labels: u8, tags: &mut Vec<Tag>, at: usize) {
     for tag in tags.iter_mut().skip(at) {
         if let Tag::Close(label) = *tag {
-            *tag = Tag::Close(if label == 0 {
+            let other = if label == 0 {
                 labels.saturating_sub(1)
             } else {
                 0
-            });
+            };
+            *tag = Tag::Close(other);
             return;
         }
     }

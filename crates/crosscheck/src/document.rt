@@ -1,29 +1,14 @@
 //! Documents: lists of tags, what is wrong with one of their lines, and their two texts.
-use crate::answers::Cause;
 use crate::writing::{packed, tag_lines};
+use automata::tag::Tag;
+use base::source::Ending;
 use std::alloc::{AllocError, Global};
+use text::refusal::Refusal;
 
-/// An element opens or closes, by its label.
-#[derive(Clone, Copy)]
-pub enum Tag {
-    Open(u8),
-    Close(u8),
-}
-
-impl Tag {
-    /// The label of the element.
-    pub fn label(self) -> u8 {
-        match self {
-            Tag::Open(label) | Tag::Close(label) => label,
-        }
-    }
-
-    /// Whether the element opens.
-    pub fn opens(self) -> bool {
-        match self {
-            Tag::Open(_) => true,
-            Tag::Close(_) => false,
-        }
+/// The label of the element that opens or closes.
+pub fn label_of(tag: Tag) -> u8 {
+    match tag {
+        Tag::Open(label) | Tag::Close(label) => label,
     }
 }
 
@@ -40,44 +25,37 @@ pub enum Flaw {
     UnknownName,
 }
 
-impl Flaw {
-    // The number of the refusal.
-    fn number(self) -> u8 {
-        match self {
-            Flaw::UnknownName => 22,
-            _ => 21,
+impl From<Flaw> for Refusal {
+    fn from(flaw: Flaw) -> Refusal {
+        match flaw {
+            Flaw::UnknownName => Refusal::UnknownName,
+            _ => Refusal::TagLine,
         }
     }
+}
+
+/// A line that is not what it should be, by the place of its tag.
+#[derive(Clone, Copy)]
+pub struct FlawedLine {
+    pub at: usize,
+    pub flaw: Flaw,
 }
 
 /// Tags to be read, and how they end.
 #[derive(Clone, Copy)]
 pub struct Reading<'a> {
     pub tags: &'a [Tag],
-    pub ending: Cause,
+    pub ending: Ending,
 }
 
-/// Tags over so many labels. As lines, the line at the place of the flaw has it.
+/// Tags over so many labels. As lines, one of them may be flawed.
 #[derive(Drop)]
 pub struct Document {
     labels: u8,
     pub tags: Vec<Tag>,
-    flaw: Option<(usize, Flaw)>,
+    flawed: Option<FlawedLine>,
     pub lines: String,
     pub bytes: Vec<u8>,
-}
-
-// What is wrong with the line of the tag at this place.
-fn flaw_at(labels: u8, flaw: Option<(usize, Flaw)>, at: usize, tag: Tag) -> Option<Flaw> {
-    if let Some((place, flaw)) = flaw {
-        if place == at {
-            return Some(flaw);
-        }
-    }
-    if tag.label() >= labels {
-        return Some(Flaw::UnknownName);
-    }
-    None
 }
 
 impl Document {
@@ -86,14 +64,14 @@ impl Document {
         heap: Global,
         labels: u8,
         tags: Vec<Tag>,
-        flaw: Option<(usize, Flaw)>,
+        flawed: Option<FlawedLine>,
     ) -> Result<Document, AllocError> {
-        let lines = tag_lines(heap, tags.as_slice(), flaw)?;
+        let lines = tag_lines(heap, tags.as_slice(), flawed)?;
         let bytes = packed(heap, tags.as_slice())?;
         Ok(Document {
             labels,
             tags,
-            flaw,
+            flawed,
             lines,
             bytes,
         })
@@ -103,25 +81,33 @@ impl Document {
     pub fn as_packed(&self) -> Reading<'_> {
         Reading {
             tags: self.tags.as_slice(),
-            ending: Cause::Clean,
+            ending: Ending::Clean,
         }
     }
 
     /// What its lines say: the tags before the first faulty line.
     pub fn as_lines(&self) -> Reading<'_> {
         let tags = self.tags.as_slice();
-        let mut line = 0u32;
         for (at, tag) in tags.iter().enumerate() {
-            line = line.saturating_add(1);
-            if let Some(flaw) = flaw_at(self.labels, self.flaw, at, *tag) {
-                let number = flaw.number();
+            if let Some(flaw) = self.flaw_at(at, *tag) {
+                let refusal = flaw.into();
+                let line = u32::try_from(at).unwrap_or(u32::MAX).saturating_add(1);
                 return Reading {
-                    tags: &tags[0..at],
-                    ending: Cause::Fault { number, line },
+                    tags: &tags[..at],
+                    ending: Ending::Fault { refusal, line },
                 };
             }
         }
         self.as_packed()
+    }
+
+    // What is wrong with the line of the tag at this place.
+    fn flaw_at(&self, at: usize, tag: Tag) -> Option<Flaw> {
+        match self.flawed {
+            Some(flawed) if flawed.at == at => Some(flawed.flaw),
+            _ if label_of(tag) >= self.labels => Some(Flaw::UnknownName),
+            _ => None,
+        }
     }
 
     /// How many elements are open at once, at most.
@@ -129,10 +115,9 @@ impl Document {
         let mut depth = 0u32;
         let mut most = 0;
         for tag in self.tags.as_slice() {
-            depth = if tag.opens() {
-                depth.saturating_add(1)
-            } else {
-                depth.saturating_sub(1)
+            depth = match tag {
+                Tag::Open(_) => depth.saturating_add(1),
+                Tag::Close(_) => depth.saturating_sub(1),
             };
             most = depth.max(most);
         }

@@ -1,24 +1,10 @@
 //! Generated paths and documents.
-use crate::damage::Damage;
-use crate::document::{Document, Tag};
+use crate::damage::{Damage, Spot};
+use crate::document::Document;
 use crate::random::Random;
-use crate::steps::{Fit, Step};
+use automata::tag::Tag;
+use paths::path::{Step, Test};
 use std::alloc::{AllocError, Global};
-
-/// A path of 1 to 5 steps over so many labels.
-pub fn steps(heap: Global, random: &mut Random, labels: u8) -> Result<Vec<Step>, AllocError> {
-    let mut steps = Vec::new(heap);
-    for _ in 0..random.between(1, 5) {
-        let fit = if random.chance(25) {
-            Fit::Any
-        } else {
-            Fit::Label(random.label(labels))
-        };
-        let deep = random.chance(45);
-        steps.push(Step { deep, fit })?;
-    }
-    Ok(steps)
-}
 
 /// How a document grows: so many turns, each of which opens an element with this chance in a hundred where fewer than `most`
 /// are open, and else closes one.
@@ -61,40 +47,62 @@ impl Shape {
     }
 }
 
-// A well-nested document with one root.
-fn nested(
-    heap: Global,
-    random: &mut Random,
-    labels: u8,
-    shape: Shape,
-) -> Result<Vec<Tag>, AllocError> {
-    let mut tags = Vec::new(heap);
-    let mut path = Vec::new(heap);
-    for _ in 0..shape.turns {
-        let more = path.len() < shape.most && random.chance(shape.percent);
-        if more || path.len() < 2 {
-            let label = random.label(labels);
-            path.push(label)?;
-            tags.push(Tag::Open(label))?;
-        } else if let Some(label) = path.pop() {
-            tags.push(Tag::Close(label))?;
-        }
-    }
-    for label in path.iter().rev() {
-        tags.push(Tag::Close(*label))?;
-    }
-    Ok(tags)
+/// Generates over so many labels.
+#[derive(Drop)]
+pub struct Generator<'a> {
+    pub heap: Global,
+    pub random: &'a mut Random,
+    pub labels: u8,
 }
 
-/// A document of a shape, with a kind of damage.
-pub fn document(
-    heap: Global,
-    random: &mut Random,
-    labels: u8,
-    shape: Shape,
-    damage: Damage,
-) -> Result<Document, AllocError> {
-    let mut tags = nested(heap, random, labels, shape)?;
-    let flaw = damage.apply(random, labels, &mut tags)?;
-    Document::new(heap, labels, tags, flaw)
+impl Generator<'_> {
+    /// A path of 1 to 5 steps.
+    pub fn steps(&mut self) -> Result<Vec<Step>, AllocError> {
+        let mut steps = Vec::new(self.heap);
+        for _ in 0..self.random.between(1, 5) {
+            let test = if self.random.chance(25) {
+                Test::Any
+            } else {
+                Test::Label(self.random.label(self.labels))
+            };
+            let descend = self.random.chance(45);
+            steps.push(Step { descend, test })?;
+        }
+        Ok(steps)
+    }
+
+    /// A document of a shape, with its damage.
+    pub fn document(
+        &mut self,
+        shape: Shape,
+        damage: Option<Damage>,
+    ) -> Result<Document, AllocError> {
+        let mut tags = self.nested(shape)?;
+        let spot = Spot::any(self.random, self.labels, tags.as_slice());
+        let flawed = match damage {
+            Some(damage) => damage.apply(self.random, self.labels, spot, &mut tags)?,
+            None => None,
+        };
+        Document::new(self.heap, self.labels, tags, flawed)
+    }
+
+    // A well-nested document with one root.
+    fn nested(&mut self, shape: Shape) -> Result<Vec<Tag>, AllocError> {
+        let mut tags = Vec::new(self.heap);
+        let mut path = Vec::new(self.heap);
+        for _ in 0..shape.turns {
+            let more = path.len() < shape.most && self.random.chance(shape.percent);
+            if more || path.len() < 2 {
+                let label = self.random.label(self.labels);
+                path.push(label)?;
+                tags.push(Tag::Open(label))?;
+            } else if let Some(label) = path.pop() {
+                tags.push(Tag::Close(label))?;
+            }
+        }
+        for label in path.iter().rev() {
+            tags.push(Tag::Close(*label))?;
+        }
+        Ok(tags)
+    }
 }

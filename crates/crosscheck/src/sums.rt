@@ -1,9 +1,10 @@
 //! Queries that count: the weights of the labels have a sum with a remainder. Unlike a path, such a query takes a selector
 //! from state to state and back again, so that each closing matters.
-use crate::answers::Grade;
 use crate::random::Random;
 use crate::writing::label_line;
+use grading::grade::Grade;
 use std::alloc::Global;
+use std::fmt;
 use std::fmt::Write;
 
 /// Where a sum begins: with the root, below it, or below the first label 0, without which there is no sum.
@@ -21,6 +22,21 @@ pub struct Sum {
     weights: [u8; 5],
     modulus: u8,
     remainder: u8,
+}
+
+// The query in words.
+impl fmt::Display for Sum {
+    fn fmt<W: fmt::Write>(&self, f: &mut fmt::Formatter<W>) -> fmt::Result {
+        f.write_str(match self.begin {
+            Begin::Root => "sum",
+            Begin::BelowRoot => "sum below the root",
+            Begin::BelowFirst => "sum below the first a",
+        })?;
+        for weight in self.weights {
+            write!(f, " {weight}")?;
+        }
+        write!(f, " modulo {} is {}", self.modulus, self.remainder)
+    }
 }
 
 impl Sum {
@@ -54,19 +70,14 @@ impl Sum {
 
     // The weight of a label.
     fn weight(self, label: u8) -> u32 {
-        match self.weights.get(label as usize) {
-            Some(weight) => u32::from(*weight),
-            None => 0,
-        }
+        self.weights
+            .get(label as usize)
+            .map_or(0, |weight| u32::from(*weight))
     }
 
     // The remainder of a number.
     fn rest(self, number: u32) -> u32 {
-        if self.modulus == 0 {
-            0
-        } else {
-            number % u32::from(self.modulus)
-        }
+        number.checked_rem(u32::from(self.modulus)).unwrap_or(0)
     }
 
     /// Whether the labels have a sum with the remainder.
@@ -88,23 +99,6 @@ impl Sum {
             Begin::Root | Begin::BelowRoot => Some(Grade::Registerless),
             Begin::BelowFirst => None,
         }
-    }
-
-    /// The query in words.
-    pub fn text(self, heap: Global) -> anyhow::Result<String> {
-        let mut text = String::from_str(heap, "sum")?;
-        text.push_str(match self.begin {
-            Begin::Root => "",
-            Begin::BelowRoot => " below the root",
-            Begin::BelowFirst => " below the first a",
-        })?;
-        for weight in self.weights {
-            write!(text, " {weight}")?;
-        }
-        let modulus = self.modulus;
-        let remainder = self.remainder;
-        write!(text, " modulo {modulus} is {remainder}")?;
-        Ok(text)
     }
 
     /// The table text: a state for each remainder, and before them one for a sum that has not begun.

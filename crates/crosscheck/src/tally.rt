@@ -1,59 +1,22 @@
 //! What was compared, counted.
-use crate::answers::{Answer, Grade};
+use crate::answers::Answer;
+use base::run::Opened;
+use choosing::kind::SelectorKind;
+use grading::grade::Grade;
 
-/// Counts of documents and tags, queries by grade, runs by selector, refusals by number, picks and differences.
-#[derive(Drop)]
+/// Counts of documents and tags, queries by grade, runs by the selector's number, refusals by number, picks and differences.
+#[derive(Drop, Default)]
 pub struct Tally {
     documents: u32,
     tags: usize,
     queries: [u32; 3],
-    runs: [u32; 3],
+    runs: [u32; 4],
     refusals: [u32; 23],
     picks: u32,
     pub differences: u32,
 }
 
-/// Which selector is run.
-#[derive(Clone, Copy)]
-pub enum Chosen {
-    Stack,
-    Registerless,
-    Stackless,
-}
-
-impl Chosen {
-    /// What it is called.
-    pub fn name(self) -> &'static str {
-        match self {
-            Chosen::Stack => "stack",
-            Chosen::Registerless => "registerless",
-            Chosen::Stackless => "stackless",
-        }
-    }
-
-    /// Whether it follows the document also past a closing with another element's label.
-    pub fn closes_any(self) -> bool {
-        match self {
-            Chosen::Stack => true,
-            Chosen::Registerless | Chosen::Stackless => false,
-        }
-    }
-}
-
 impl Tally {
-    /// Nothing counted yet.
-    pub fn new() -> Tally {
-        Tally {
-            documents: 0,
-            tags: 0,
-            queries: [0; 3],
-            runs: [0; 3],
-            refusals: [0; 23],
-            picks: 0,
-            differences: 0,
-        }
-    }
-
     /// Counts a document with so many tags.
     pub fn count_document(&mut self, tags: usize) {
         self.documents = self.documents.saturating_add(1);
@@ -62,33 +25,20 @@ impl Tally {
 
     /// Counts a query of a grade.
     pub fn count_query(&mut self, grade: Grade) {
-        let at = match grade {
-            Grade::Registerless => 0,
-            Grade::Stackless => 1,
-            Grade::Neither => 2,
-        };
-        self.queries[at] = self.queries[at].saturating_add(1);
+        count(&mut self.queries, grade as usize);
     }
 
     /// Counts a run of a selector.
-    pub fn count_run(&mut self, selector: Chosen) {
-        let at = match selector {
-            Chosen::Stack => 0,
-            Chosen::Registerless => 1,
-            Chosen::Stackless => 2,
-        };
-        self.runs[at] = self.runs[at].saturating_add(1);
+    pub fn count_run(&mut self, selector: SelectorKind) {
+        count(&mut self.runs, selector as usize);
     }
 
     /// Counts what an expected answer tells.
     pub fn count_answer(&mut self, answer: Answer) {
-        if let Some(number) = answer.refusal() {
-            if number < 23 {
-                let at = number as usize;
-                self.refusals[at] = self.refusals[at].saturating_add(1);
-            }
+        if let Some(refusal) = answer.refusal() {
+            count(&mut self.refusals, refusal as usize);
         }
-        if let Answer::Listed { .. } | Answer::Opened { picked: true, .. } = answer {
+        if let Answer::Listed { .. } | Answer::Opened(Opened { picked: true, .. }) = answer {
             self.picks = self.picks.saturating_add(1);
         }
     }
@@ -102,15 +52,20 @@ impl Tally {
         println!(rt;
             "queries\tregisterless\t{registerless}\tstackless\t{stackless}\tneither\t{neither}"
         )?;
-        let [stack, registerless, stackless] = self.runs;
+        let [_, registerless, stackless, stack] = self.runs;
         println!(rt; "runs\tstack\t{stack}\tregisterless\t{registerless}\tstackless\t{stackless}")?;
         for (number, count) in self.refusals.iter().enumerate().skip(13) {
             println!(rt; "refused\t{number}\t{count}")?;
         }
-        let picks = self.picks;
-        println!(rt; "picks\t{picks}")?;
-        let differences = self.differences;
-        println!(rt; "differences\t{differences}")?;
+        println!(rt; "picks\t{}", self.picks)?;
+        println!(rt; "differences\t{}", self.differences)?;
         Ok(())
+    }
+}
+
+// Counts one more at a place.
+fn count(counts: &mut [u32], at: usize) {
+    if let Some(count) = counts.get_mut(at) {
+        *count = count.saturating_add(1);
     }
 }

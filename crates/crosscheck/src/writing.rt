@@ -1,6 +1,7 @@
 //! Label lines, paths and documents as texts.
-use crate::document::{Flaw, Tag};
-use crate::steps::{Fit, Step};
+use crate::document::{Flaw, FlawedLine, label_of};
+use automata::tag::Tag;
+use paths::path::{Step, Test};
 use std::alloc::{AllocError, Global};
 
 // A label's name; no label line has the last one.
@@ -30,10 +31,10 @@ pub fn label_line(heap: Global, labels: u8) -> Result<String, AllocError> {
 pub fn path_text(heap: Global, steps: &[Step]) -> Result<String, AllocError> {
     let mut text = String::new(heap);
     for step in steps {
-        text.push_str(if step.deep { "//" } else { "/" })?;
-        text.push_str(match step.fit {
-            Fit::Label(label) => name(label),
-            Fit::Any => "*",
+        text.push_str(if step.descend { "//" } else { "/" })?;
+        text.push_str(match step.test {
+            Test::Label(label) => name(label),
+            Test::Any => "*",
         })?;
     }
     Ok(text)
@@ -43,13 +44,13 @@ pub fn path_text(heap: Global, steps: &[Step]) -> Result<String, AllocError> {
 pub fn tag_lines(
     heap: Global,
     tags: &[Tag],
-    flaw: Option<(usize, Flaw)>,
+    flawed: Option<FlawedLine>,
 ) -> Result<String, AllocError> {
     let mut lines = String::new(heap);
     for (at, tag) in tags.iter().enumerate() {
-        let parts = match flaw {
-            Some((place, flaw)) if place == at => flawed(*tag, flaw),
-            _ => [mark(*tag), "\t", name(tag.label()), "\n"],
+        let parts = match flawed {
+            Some(flawed) if flawed.at == at => flawed_line(*tag, flawed.flaw),
+            _ => [mark(*tag), "\t", name(label_of(*tag)), "\n"],
         };
         for part in parts {
             lines.push_str(part)?;
@@ -60,13 +61,16 @@ pub fn tag_lines(
 
 // The mark of a tag line.
 fn mark(tag: Tag) -> &'static str {
-    if tag.opens() { "+" } else { "-" }
+    match tag {
+        Tag::Open(_) => "+",
+        Tag::Close(_) => "-",
+    }
 }
 
 // The mark, the tab, the name and the newline of a faulty line, as far as it has them.
-fn flawed(tag: Tag, flaw: Flaw) -> [&'static str; 4] {
+fn flawed_line(tag: Tag, flaw: Flaw) -> [&'static str; 4] {
     let mark = mark(tag);
-    let name = name(tag.label());
+    let name = name(label_of(tag));
     match flaw {
         Flaw::Empty => ["", "", "", "\n"],
         Flaw::NoTab => [mark, "", name, "\n"],
@@ -81,12 +85,10 @@ fn flawed(tag: Tag, flaw: Flaw) -> [&'static str; 4] {
 
 /// The bytes of a document, a tag in each; labels are below 128.
 pub fn packed(heap: Global, tags: &[Tag]) -> Result<Vec<u8>, AllocError> {
-    let mut bytes = Vec::new(heap);
-    for tag in tags {
-        bytes.push(match tag {
+    tags.iter()
+        .map(|tag| match tag {
             Tag::Open(label) => *label & 0x7f,
             Tag::Close(label) => *label | 0x80,
-        })?;
-    }
-    Ok(bytes)
+        })
+        .collect(heap)
 }
