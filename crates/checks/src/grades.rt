@@ -21,50 +21,33 @@ const PATHS: [(&[u8], Grade, u8); 6] = [
 ];
 
 fn table_of(labels: &Labels, text: &[u8]) -> Result<Table, Refusal> {
-    let path = Path::read(labels, text)?;
-    path.table(labels)
-}
-
-fn grades_are_right(labels: &Labels) -> Result<bool, Refusal> {
-    for (text, grade, components) in PATHS {
-        let graded = Graded::of(&table_of(labels, text)?);
-        if graded.grade != grade || graded.components != components {
-            return Ok(false);
-        }
-    }
-    Ok(true)
+    Path::read(labels, text)?.table(labels)
 }
 
 #[test]
 fn paths_have_their_grades(rt: HostRuntime) -> Result<(), Fail> {
     let labels = read_labels(b"labels\ta\tb\tc\n")?;
-    assert!(rt; grades_are_right(&labels)?);
+    for (text, grade, components) in PATHS {
+        let graded = Graded::of(&table_of(&labels, text)?);
+        assert_eq!(rt; (graded.grade, graded.components), (grade, components));
+    }
     Ok(())
 }
 
 #[test]
 fn a_minimal_table_has_no_idle_state(rt: HostRuntime) -> Result<(), Fail> {
     let idle = read_table(b"labels\ta\nstates\t2\t0\nrow\t0\tyes\t0\nrow\t1\tno\t0\n")?;
-    assert!(rt; minimise(&idle.table).states() == 1);
+    assert_eq!(rt; minimise(&idle.table).states(), 1);
     let backwards = read_table(
         b"labels\ta\nstates\t3\t2\nrow\t0\tyes\t1\nrow\t1\tno\t0\nrow\t2\tyes\t1\n",
     )?;
     let minimal = minimise(&backwards.table);
-    assert!(rt; minimal.states() == 2 && minimal.start() == 0);
-    assert!(rt; minimal.target(0, 0) == Some(1) && minimal.accepts(0) == Some(true));
+    assert_eq!(rt; (minimal.states(), minimal.start()), (2, 0));
+    assert_eq!(rt;
+        (minimal.target(0, 0), minimal.accepts(0)),
+        (Some(1), Some(true))
+    );
     Ok(())
-}
-
-fn shown(table: &Table, first: u8, second: u8, meet: u8, apart: u8) -> bool {
-    match clash_of(table) {
-        Some(clash) => {
-            clash.first.labels() == [first].as_slice()
-                && clash.second.labels() == [second].as_slice()
-                && clash.meet.labels() == [meet].as_slice()
-                && clash.apart.labels() == [apart].as_slice()
-        }
-        None => false,
-    }
 }
 
 // Behind `/a` a b is wanted and behind `/b` none, and an a leads both to where nothing is.
@@ -72,7 +55,11 @@ fn shown(table: &Table, first: u8, second: u8, meet: u8, apart: u8) -> bool {
 fn a_clash_is_shown_by_short_lists(rt: HostRuntime) -> Result<(), Fail> {
     let labels = read_labels(b"labels\ta\tb\tc\n")?;
     let graded = Graded::of(&table_of(&labels, b"/a/b")?);
-    assert!(rt; shown(&graded.table, 0, 1, 0, 1));
+    let clash = clash_of(&graded.table).ok_or("no clash")?;
+    assert_eq!(rt; clash.first.labels(), [0].as_slice());
+    assert_eq!(rt; clash.second.labels(), [1].as_slice());
+    assert_eq!(rt; clash.meet.labels(), [0].as_slice());
+    assert_eq!(rt; clash.apart.labels(), [1].as_slice());
     let registerless = Graded::of(&table_of(&labels, b"/a//b")?);
     assert!(rt; clash_of(&registerless.table).is_none());
     Ok(())

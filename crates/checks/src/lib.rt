@@ -4,6 +4,8 @@
 #[cfg(test)]
 mod grades;
 #[cfg(test)]
+mod numbers;
+#[cfg(test)]
 mod routes;
 #[cfg(test)]
 mod runs;

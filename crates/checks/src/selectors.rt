@@ -1,6 +1,7 @@
 //! Runs of the selectors that need no stack.
+use crate::numbers::refused;
 use base::packed::PackedSource;
-use base::run::Run;
+use base::run::{Drained, Run, Totals};
 use base::selector::Selector;
 use base::table::Table;
 use formats::label_line::read_labels;
@@ -13,30 +14,28 @@ use text::refusal::Refusal;
 
 fn table_of(text: &[u8]) -> Result<Table, Refusal> {
     let labels = read_labels(b"labels\ta\tb\tc\n")?;
-    let path = Path::read(&labels, text)?;
-    path.table(&labels)
+    Path::read(&labels, text)?.table(&labels)
 }
 
-// What a run over the bytes picks, and whether it was whole with so many openings.
+// What a run over the bytes answers and amounts to, and its list of four places, with a 9 where nothing was put.
+#[derive(Clone, Copy)]
 struct Reading {
-    picked: [u32; 4],
-    picks: u32,
-    openings: u32,
-    whole: bool,
+    list: [u32; 4],
+    drained: Drained,
+    totals: Totals,
 }
 
 fn read<S: Selector + Drop>(table: &Table, selector: S, bytes: &[u8]) -> Result<Reading, Refusal> {
     let mut source = PackedSource::new(bytes)?;
-    let mut picked = [9; 4];
+    let mut list = [9; 4];
     let Begun { graded: _, mut run } = begin(table, selector, 65_535);
-    let drained = run.drain(&mut source, &mut picked);
+    let drained = run.drain(&mut source, &mut list);
     let (totals, selector) = run.end();
     drop(selector);
     Ok(Reading {
-        picked,
-        picks: drained.picks,
-        openings: totals.openings,
-        whole: totals.whole,
+        list,
+        drained,
+        totals,
     })
 }
 
@@ -45,13 +44,12 @@ fn read<S: Selector + Drop>(table: &Table, selector: S, bytes: &[u8]) -> Result<
 fn a_registerless_run_keeps_its_place(rt: HostRuntime) -> Result<(), Fail> {
     let table = table_of(b"/a//b")?;
     let Reading {
-        picked,
-        picks,
-        openings,
-        whole,
+        list,
+        drained,
+        totals,
     } = read(&table, RegisterlessSelector::new(&table)?, &[0, 0, 0x80, 1])?;
-    assert!(rt; picks == 1 && picked == [2, 9, 9, 9]);
-    assert!(rt; openings == 3 && !whole);
+    assert_eq!(rt; (drained.picks, list), (1, [2, 9, 9, 9]));
+    assert_eq!(rt; (totals.openings, totals.whole), (3, false));
     Ok(())
 }
 
@@ -60,35 +58,33 @@ fn a_registerless_run_keeps_its_place(rt: HostRuntime) -> Result<(), Fail> {
 fn a_stackless_run_keeps_its_place(rt: HostRuntime) -> Result<(), Fail> {
     let table = table_of(b"/a/b")?;
     let selector = StacklessSelector::new(&table)?;
-    assert!(rt; selector.notes_needed() == 3);
+    assert_eq!(rt; selector.notes_needed(), 3);
+    let tags = [0, 2, 0x82, 1, 2, 0x82, 0x81, 1, 0x81, 0x80];
     let Reading {
-        picked,
-        picks,
-        openings,
-        whole,
-    } = read(
-        &table,
-        selector,
-        &[0, 2, 0x82, 1, 2, 0x82, 0x81, 1, 0x81, 0x80],
-    )?;
-    assert!(rt; picks == 2 && picked == [2, 4, 9, 9]);
-    assert!(rt; openings == 5 && whole);
+        list,
+        drained,
+        totals,
+    } = read(&table, selector, &tags)?;
+    assert_eq!(rt; (drained.picks, list), (2, [2, 4, 9, 9]));
+    assert_eq!(rt; (totals.openings, totals.whole), (5, true));
     Ok(())
-}
-
-fn number<T: Drop>(made: Result<T, Refusal>) -> u8 {
-    match made {
-        Ok(_) => 0,
-        Err(refusal) => refusal.number(),
-    }
 }
 
 #[test]
 fn selectors_that_do_not_serve_are_refused(rt: HostRuntime) -> Result<(), Fail> {
-    assert!(rt; number(RegisterlessSelector::new(&table_of(b"/a/b")?)) == 13);
-    assert!(rt; number(RegisterlessSelector::new(&table_of(b"//a/b")?)) == 13);
-    assert!(rt; number(StacklessSelector::new(&table_of(b"//a/b")?)) == 14);
-    assert!(rt; number(StacklessSelector::new(&table_of(b"/a//b")?)) == 0);
+    assert_eq!(rt;
+        refused(RegisterlessSelector::new(&table_of(b"/a/b")?)),
+        Some(13)
+    );
+    assert_eq!(rt;
+        refused(RegisterlessSelector::new(&table_of(b"//a/b")?)),
+        Some(13)
+    );
+    assert_eq!(rt;
+        refused(StacklessSelector::new(&table_of(b"//a/b")?)),
+        Some(14)
+    );
+    assert_eq!(rt; refused(StacklessSelector::new(&table_of(b"/a//b")?)), None);
     Ok(())
 }
 
@@ -100,8 +96,9 @@ fn limits_fit_the_carry(rt: HostRuntime) -> Result<(), Fail> {
     let taken = fit.open(0).is_ok();
     let _ = fit.end();
     let mut unfit = Run::begin(StacklessSelector::new(&table)?, 65_536);
-    let refused = number(unfit.open(0));
+    let answer = unfit.open(0);
     let _ = unfit.end();
-    assert!(rt; taken && refused == 15);
+    assert!(rt; taken);
+    assert_eq!(rt; refused(answer), Some(15));
     Ok(())
 }

@@ -1,4 +1,5 @@
 //! Tag lines and packed bytes.
+use crate::numbers::refused;
 use automata::tag::Tag;
 use base::lines::LineSource;
 use base::packed::PackedSource;
@@ -9,17 +10,7 @@ use text::refusal::Refusal;
 
 // The source gives these, one by one.
 fn gives<T: TagSource>(source: &mut T, wanted: &[Next]) -> bool {
-    for next in wanted {
-        if source.next() != *next {
-            return false;
-        }
-    }
-    true
-}
-
-fn lines_give<'a>(labels: &'a Labels, text: &'a [u8], wanted: &[Next]) -> Result<bool, Refusal> {
-    let mut source = LineSource::new(labels, text)?;
-    Ok(gives(&mut source, wanted))
+    wanted.iter().all(|next| source.next() == *next)
 }
 
 #[test]
@@ -35,29 +26,30 @@ fn lines_give_tags_and_then_the_fault(rt: HostRuntime) -> Result<(), Fail> {
         fault,
         fault,
     ];
-    assert!(rt; lines_give(&labels, b"+\tair\n-\tair\n+\tqux\n-\tair\n", &wanted)?);
+    let mut source = LineSource::new(&labels, b"+\tair\n-\tair\n+\tqux\n-\tair\n")?;
+    assert!(rt; gives(&mut source, &wanted));
     Ok(())
 }
 
-// Texts, each with the number of the fault in its first line, or 0.
-const LINES: [(&[u8], u8); 9] = [
-    (b"", 0),
-    (b"+\ta\n", 0),
-    (b"+\ta", 21),
-    (b"\n", 21),
-    (b"+a\n", 21),
-    (b"*\ta\n", 21),
-    (b"+\tA\n", 21),
-    (b"+\t\n", 21),
-    (b"+\tb\n", 22),
+// Texts, each with the number of the fault in its first line.
+const LINES: [(&[u8], Option<u8>); 9] = [
+    (b"", None),
+    (b"+\ta\n", None),
+    (b"+\ta", Some(21)),
+    (b"\n", Some(21)),
+    (b"+a\n", Some(21)),
+    (b"*\ta\n", Some(21)),
+    (b"+\tA\n", Some(21)),
+    (b"+\t\n", Some(21)),
+    (b"+\tb\n", Some(22)),
 ];
 
-// The number of the fault in the first line, where it is one.
-fn fault_of<'a>(labels: &'a Labels, text: &'a [u8]) -> Result<u8, Refusal> {
+// The number of the fault in the first line.
+fn fault_of<'a>(labels: &'a Labels, text: &'a [u8]) -> Result<Option<u8>, Refusal> {
     let mut source = LineSource::new(labels, text)?;
     match source.next() {
-        Next::End(Ending::Fault { refusal, line: 1 }) => Ok(refusal.number()),
-        _ => Ok(0),
+        Next::End(Ending::Fault { refusal, line: 1 }) => Ok(Some(refusal.number())),
+        _ => Ok(None),
     }
 }
 
@@ -65,15 +57,10 @@ fn fault_of<'a>(labels: &'a Labels, text: &'a [u8]) -> Result<u8, Refusal> {
 fn lines_are_faulty(rt: HostRuntime) -> Result<(), Fail> {
     let labels = Labels::new(b"a")?;
     for (text, number) in LINES {
-        assert!(rt; fault_of(&labels, text)? == number);
+        assert_eq!(rt; fault_of(&labels, text)?, number);
     }
-    assert!(rt; matches!(fault_of(&labels, &[b'a'; 65_537]), Err(Refusal::TooLong)));
+    assert_eq!(rt; refused(LineSource::new(&labels, &[b'a'; 65_537])), Some(1));
     Ok(())
-}
-
-fn bytes_give(bytes: &[u8], wanted: &[Next]) -> Result<bool, Refusal> {
-    let mut source = PackedSource::new(bytes)?;
-    Ok(gives(&mut source, wanted))
 }
 
 #[test]
@@ -85,7 +72,8 @@ fn bytes_give_tags(rt: HostRuntime) -> Result<(), Fail> {
         end,
         end,
     ];
-    assert!(rt; bytes_give(&[0x02, 0xff], &wanted)?);
-    assert!(rt; matches!(bytes_give(&[0; 65_537], &wanted), Err(Refusal::TooLong)));
+    let mut source = PackedSource::new(&[0x02, 0xff])?;
+    assert!(rt; gives(&mut source, &wanted));
+    assert_eq!(rt; refused(PackedSource::new(&[0; 65_537])), Some(1));
     Ok(())
 }
