@@ -3,5 +3,5 @@ use text::refusal::Refusal;
 
 /// The number that something is refused with.
 pub fn refused<T: Drop>(made: Result<T, Refusal>) -> Option<u8> {
-    made.err().map(|refusal| refusal.number())
+    made.err().map(u8::from)
 }

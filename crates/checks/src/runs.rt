@@ -3,23 +3,24 @@ use crate::numbers::refused;
 use base::packed::PackedSource;
 use base::run::{Cause, Drained, Opened, Run, Totals};
 use base::selector::Selector;
-use base::source::Ending;
 use base::stack_selector::StackSelector;
-use base::table::Table;
+use base::table::{Row, Table};
 use std::test::Fail;
 use text::refusal::Refusal;
 
 // Every 1 below a 0: state 1 once a 0 is open, state 2 at a 1 below it.
 fn below() -> Result<Table, Refusal> {
-    let mut targets = [[0; 16]; 32];
-    targets[0][0] = 1;
-    targets[1][0] = 1;
-    targets[1][1] = 2;
-    targets[2][0] = 1;
-    targets[2][1] = 2;
-    let mut accepting = [false; 32];
-    accepting[2] = true;
-    Table::new(2, 3, 0, targets, accepting)
+    let mut rows = [Row {
+        targets: [0; 16],
+        accepts: false,
+    }; 32];
+    rows[0].targets[0] = 1;
+    rows[1].targets[0] = 1;
+    rows[1].targets[1] = 2;
+    rows[2].targets[0] = 1;
+    rows[2].targets[1] = 2;
+    rows[2].accepts = true;
+    Table::new(2, 3, 0, rows)
 }
 
 // A run must be ended, so each test ends its run before it looks at the answers.
@@ -97,10 +98,10 @@ fn a_drain_ends_at_a_refusal(rt: HostRuntime) -> Result<(), Fail> {
     let expected = Drained {
         offered: 5,
         picks: 2,
-        cause: Cause::Refused {
+        end: Err(Cause::Refused {
             refusal: Refusal::TooDeep,
             tag: 5,
-        },
+        }),
     };
     let totals = Totals {
         openings: 3,
@@ -119,7 +120,7 @@ fn a_short_list_loses_no_count(rt: HostRuntime) -> Result<(), Fail> {
     let expected = Drained {
         offered: 6,
         picks: 2,
-        cause: Cause::Ended(Ending::Clean),
+        end: Ok(()),
     };
     let totals = Totals {
         openings: 3,

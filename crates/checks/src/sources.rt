@@ -3,26 +3,26 @@ use crate::numbers::refused;
 use automata::tag::Tag;
 use base::lines::LineSource;
 use base::packed::PackedSource;
-use base::source::{Ending, Next, TagSource};
+use base::source::{Fault, TagSource};
 use std::test::Fail;
 use text::labels::Labels;
 use text::refusal::Refusal;
 
 // The source gives these, one by one.
-fn gives<T: TagSource>(source: &mut T, wanted: &[Next]) -> bool {
+fn gives<T: TagSource>(source: &mut T, wanted: &[Result<Option<Tag>, Fault>]) -> bool {
     wanted.iter().all(|next| source.next() == *next)
 }
 
 #[test]
 fn lines_give_tags_and_then_the_fault(rt: HostRuntime) -> Result<(), Fail> {
     let labels = Labels::new(b"air")?;
-    let fault = Next::End(Ending::Fault {
+    let fault = Err(Fault {
         refusal: Refusal::UnknownName,
         line: 3,
     });
     let wanted = [
-        Next::Tag(Tag::Open(0)),
-        Next::Tag(Tag::Close(0)),
+        Ok(Some(Tag::Open(0))),
+        Ok(Some(Tag::Close(0))),
         fault,
         fault,
     ];
@@ -48,7 +48,7 @@ const LINES: [(&[u8], Option<u8>); 9] = [
 fn fault_of<'a>(labels: &'a Labels, text: &'a [u8]) -> Result<Option<u8>, Refusal> {
     let mut source = LineSource::new(labels, text)?;
     match source.next() {
-        Next::End(Ending::Fault { refusal, line: 1 }) => Ok(Some(refusal.number())),
+        Err(Fault { refusal, line: 1 }) => Ok(Some(refusal.into())),
         _ => Ok(None),
     }
 }
@@ -65,12 +65,11 @@ fn lines_are_faulty(rt: HostRuntime) -> Result<(), Fail> {
 
 #[test]
 fn bytes_give_tags(rt: HostRuntime) -> Result<(), Fail> {
-    let end = Next::End(Ending::Clean);
     let wanted = [
-        Next::Tag(Tag::Open(2)),
-        Next::Tag(Tag::Close(127)),
-        end,
-        end,
+        Ok(Some(Tag::Open(2))),
+        Ok(Some(Tag::Close(127))),
+        Ok(None),
+        Ok(None),
     ];
     let mut source = PackedSource::new(&[0x02, 0xff])?;
     assert!(rt; gives(&mut source, &wanted));

@@ -1,6 +1,6 @@
 //! Labels, tables and their texts.
 use crate::numbers::refused;
-use base::table::Table;
+use base::table::{Row, Table};
 use formats::label_line::read_labels;
 use formats::table_text::{TableText, read_table};
 use std::test::Fail;
@@ -123,7 +123,11 @@ const PARTS: [([u8; 4], Option<u8>); 7] = [
 #[test]
 fn parts_are_refused_in_order(rt: HostRuntime) {
     for ([labels, states, start, target], number) in PARTS {
-        let table = Table::new(labels, states, start, [[target; 16]; 32], [true; 32]);
+        let row = Row {
+            targets: [target; 16],
+            accepts: true,
+        };
+        let table = Table::new(labels, states, start, [row; 32]);
         assert_eq!(rt; refused(table), number);
     }
 }
