@@ -1,7 +1,7 @@
 //! What a run answers, as the library says it.
 use base::run::{Cause, Drained, Opened, Totals};
 use base::selector::Selector;
-use base::source::Ending;
+use base::source::Fault;
 use grading::grade::Grade;
 use text::refusal::Refusal;
 
@@ -81,10 +81,11 @@ impl Answer {
     pub fn refusal(self) -> Option<Refusal> {
         match self {
             Answer::Refused(refusal) => Some(refusal),
-            Answer::Drained(drained) => match drained.cause {
-                Cause::Ended(Ending::Clean) => None,
-                Cause::Ended(Ending::Fault { refusal, .. }) | Cause::Refused { refusal, .. } =>
-                    Some(refusal),
+            Answer::Drained(drained) => match drained.end {
+                Ok(()) => None,
+                Err(Cause::Fault(Fault { refusal, .. }) | Cause::Refused { refusal, .. }) => Some(
+                    refusal,
+                ),
             },
             _ => None,
         }

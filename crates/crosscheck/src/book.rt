@@ -1,11 +1,14 @@
 //! The book of a run: what it ought to answer, kept from the tags alone.
 use crate::answers::Answer;
-use crate::document::{Reading, label_of};
+use crate::document::Reading;
 use crate::wanted::Wanted;
 use automata::tag::Tag;
 use base::run::{Cause, Drained, Opened, Totals};
 use std::alloc::{AllocError, Global};
 use text::refusal::Refusal;
+
+/// The most levels that a limit can ask for.
+pub const MOST_LEVELS: u32 = 65_535;
 
 /// What a run is begun with: the labels and the levels that its selector has, and the limit.
 #[derive(Clone, Copy)]
@@ -58,10 +61,10 @@ impl<'a> Book<'a> {
     // Refuses the tag by the first rule that it breaks.
     fn check(&self, tag: Tag) -> Result<(), Refusal> {
         let limit = self.terms.limit;
-        if limit < 1 || limit > 65_535 || limit > self.terms.carry {
+        if limit < 1 || limit > MOST_LEVELS || limit > self.terms.carry {
             return Err(Refusal::Limit);
         }
-        if label_of(tag) >= self.terms.labels {
+        if tag.label() >= self.terms.labels {
             return Err(Refusal::Label);
         }
         match tag {
@@ -112,7 +115,7 @@ impl<'a> Book<'a> {
     ) -> Result<Drained, AllocError> {
         let before = self.totals.picks;
         let mut offered = 0u32;
-        let mut cause = Cause::Ended(reading.ending);
+        let mut end = reading.end.map_err(Cause::Fault);
         for tag in reading.tags {
             offered = offered.saturating_add(1);
             match self.take(*tag)? {
@@ -124,7 +127,7 @@ impl<'a> Book<'a> {
                 ) => picked.push(element)?,
                 Answer::Refused(refusal) => {
                     let tag = offered;
-                    cause = Cause::Refused { refusal, tag };
+                    end = Err(Cause::Refused { refusal, tag });
                     break;
                 }
                 _ => {}
@@ -134,7 +137,7 @@ impl<'a> Book<'a> {
         Ok(Drained {
             offered,
             picks,
-            cause,
+            end,
         })
     }
 }

@@ -112,11 +112,11 @@ impl<'a> Trial<'a> {
 
     // Drains the packed bytes in two halves.
     fn drain_halves<S: Selector>(&mut self, run: &mut Run<S>) -> anyhow::Result<()> {
-        let Reading { tags, ending } = self.case.document.as_packed();
+        let Reading { tags, end } = self.case.document.as_packed();
         let (front, back) = tags.split_at(tags.len() / 2);
         for tags in [front, back] {
             let bytes = packed(self.checker.rt.alloc(), tags)?;
-            self.drain_packed(run, bytes.as_slice(), Reading { tags, ending })?;
+            self.drain_packed(run, bytes.as_slice(), Reading { tags, end })?;
         }
         Ok(())
     }
@@ -174,7 +174,7 @@ impl<'a> Trial<'a> {
         bytes: &[u8],
         reading: Reading<'_>,
     ) -> anyhow::Result<()> {
-        let mut source = PackedSource::new(bytes).map_err(|_| anyhow::anyhow!("too long"))?;
+        let mut source = PackedSource::new(bytes)?;
         self.drain(run, &mut source, reading)
     }
 

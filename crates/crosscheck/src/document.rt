@@ -1,16 +1,9 @@
 //! Documents: lists of tags, what is wrong with one of their lines, and their two texts.
 use crate::writing::{packed, tag_lines};
 use automata::tag::Tag;
-use base::source::Ending;
+use base::source::Fault;
 use std::alloc::{AllocError, Global};
 use text::refusal::Refusal;
-
-/// The label of the element that opens or closes.
-pub fn label_of(tag: Tag) -> u8 {
-    match tag {
-        Tag::Open(label) | Tag::Close(label) => label,
-    }
-}
 
 /// How a line is not what it should be.
 #[derive(Clone, Copy)]
@@ -45,7 +38,7 @@ pub struct FlawedLine {
 #[derive(Clone, Copy)]
 pub struct Reading<'a> {
     pub tags: &'a [Tag],
-    pub ending: Ending,
+    pub end: Result<(), Fault>,
 }
 
 /// Tags over so many labels. As lines, one of them may be flawed.
@@ -81,7 +74,7 @@ impl Document {
     pub fn as_packed(&self) -> Reading<'_> {
         Reading {
             tags: self.tags.as_slice(),
-            ending: Ending::Clean,
+            end: Ok(()),
         }
     }
 
@@ -94,7 +87,7 @@ impl Document {
                 let line = u32::try_from(at).unwrap_or(u32::MAX).saturating_add(1);
                 return Reading {
                     tags: &tags[..at],
-                    ending: Ending::Fault { refusal, line },
+                    end: Err(Fault { refusal, line }),
                 };
             }
         }
@@ -105,7 +98,7 @@ impl Document {
     fn flaw_at(&self, at: usize, tag: Tag) -> Option<Flaw> {
         match self.flawed {
             Some(flawed) if flawed.at == at => Some(flawed.flaw),
-            _ if label_of(tag) >= self.labels => Some(Flaw::UnknownName),
+            _ if tag.label() >= self.labels => Some(Flaw::UnknownName),
             _ => None,
         }
     }

@@ -1,6 +1,6 @@
 //! Fixed cases: limits that fit or not, the deepest run, and a run of a million openings.
 use crate::answers::Answer;
-use crate::book::Terms;
+use crate::book::{MOST_LEVELS, Terms};
 use crate::checker::{Case, Checker, Query, Way};
 use crate::compare::Trial;
 use crate::document::Document;
@@ -18,8 +18,6 @@ use grading::stackless::StacklessSelector;
 use std::alloc::{AllocError, Global};
 use text::labels::Labels;
 use text::refusal::Refusal;
-
-const MOST_LEVELS: u32 = 65_535;
 
 // Numbers of stack bytes and limits, and whether a run with them takes tags.
 const STACK_LIMITS: [(u32, u32, bool); 8] = [
@@ -145,10 +143,10 @@ impl Checker {
         let expected = Drained {
             offered: 65_536,
             picks: 65_535,
-            cause: Cause::Refused {
+            end: Err(Cause::Refused {
                 refusal: Refusal::TooDeep,
                 tag: 65_536,
-            },
+            }),
         };
         self.hold_fixed("the deepest drain", expected.into(), drained.into())?;
         let [_, _, number] = list;

@@ -60,7 +60,7 @@ fn main(rt: HostRuntime) -> anyhow::Result<()> {
 
 // The first labels, read from their line.
 fn names(heap: Global, labels: u8) -> anyhow::Result<Labels> {
-    read_labels(label_line(heap, labels)?.as_bytes()).map_err(|_| anyhow!("refused"))
+    Ok(read_labels(label_line(heap, labels)?.as_bytes())?)
 }
 
 // Over the labels a, b and c: `/a//b`, `/a/b`, `//a//b` and `//a/b`, with their grades.

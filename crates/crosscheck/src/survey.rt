@@ -1,6 +1,6 @@
 //! The survey: generated paths over generated documents, by each selector that serves them.
 use crate::answers::Answer;
-use crate::book::Terms;
+use crate::book::{MOST_LEVELS, Terms};
 use crate::checker::{Case, Checker, Query, Way};
 use crate::compare::Trial;
 use crate::damage::KINDS;
@@ -22,8 +22,6 @@ use text::refusal::Refusal;
 
 // How many paths are generated for the documents of one survey.
 const PATHS: u32 = 10;
-
-const MOST_LEVELS: u32 = 65_535;
 
 /// Labels, and documents over them.
 #[derive(Clone, Copy)]

@@ -1,5 +1,5 @@
 //! Label lines, paths and documents as texts.
-use crate::document::{Flaw, FlawedLine, label_of};
+use crate::document::{Flaw, FlawedLine};
 use automata::tag::Tag;
 use paths::path::{Step, Test};
 use std::alloc::{AllocError, Global};
@@ -50,7 +50,7 @@ pub fn tag_lines(
     for (at, tag) in tags.iter().enumerate() {
         let parts = match flawed {
             Some(flawed) if flawed.at == at => flawed_line(*tag, flawed.flaw),
-            _ => [mark(*tag), "\t", name(label_of(*tag)), "\n"],
+            _ => [mark(*tag), "\t", name(tag.label()), "\n"],
         };
         for part in parts {
             lines.push_str(part)?;
@@ -70,7 +70,7 @@ fn mark(tag: Tag) -> &'static str {
 // The mark, the tab, the name and the newline of a faulty line, as far as it has them.
 fn flawed_line(tag: Tag, flaw: Flaw) -> [&'static str; 4] {
     let mark = mark(tag);
-    let name = name(label_of(tag));
+    let name = name(tag.label());
     match flaw {
         Flaw::Empty => ["", "", "", "\n"],
         Flaw::NoTab => [mark, "", name, "\n"],

@@ -6,14 +6,12 @@ use crate::report;
 use crate::stop::Stop;
 use base::lines::LineSource;
 use base::packed::PackedSource;
+use base::selector::MAX_LEVELS;
 use base::source::TagSource;
 use choosing::chosen::Chosen;
 use choosing::reading::Reading;
 use formats::table_text::TableText;
 use text::refusal::Refusal;
-
-// As many levels as any limit can ask for.
-const STACK_BYTES: usize = 65_535;
 
 /// Picks from a document, and prints what came of it.
 pub fn pick<'a>(rt: &HostRuntime, options: PickOptions<'a>) -> Result<Outcome, Stop<'a>> {
@@ -63,14 +61,14 @@ impl<'d, 'a> Job<'d, 'a> {
         let path = self.options.document;
         let refused = |refusal| Stop::Text { path, refusal };
         let kind = chosen.kind();
-        let mut stack = vec![in self.rt.alloc(); 0u8; STACK_BYTES]?;
+        let mut stack = vec![in self.rt.alloc(); 0u8; MAX_LEVELS as usize]?;
         let mut picks = vec![in self.rt.alloc(); 0u32; self.document.len()]?;
         let limit = self.options.limit.unwrap_or(chosen.carry(stack.as_slice()));
-        let mut source = make().map_err(refused)?;
+        let source = make().map_err(refused)?;
         let Reading { drained, totals } = chosen.read(
             limit,
             stack.as_mut_slice(),
-            &mut source,
+            source,
             picks.as_mut_slice(),
         );
         picks.truncate(drained.picks as usize);
@@ -82,9 +80,11 @@ impl<'d, 'a> Job<'d, 'a> {
             &mut again,
             picks.as_slice(),
         )?;
-        let clean = report::cause(self.rt, path, drained.cause)?;
+        if let Err(cause) = drained.end {
+            report::cause(self.rt, path, cause)?;
+        }
         report::totals(self.rt, totals)?;
-        if clean && totals.whole {
+        if drained.end.is_ok() && totals.whole {
             Ok(Outcome::Sound)
         } else {
             Ok(Outcome::Flawed)

@@ -1,12 +1,11 @@
 //! What the program prints.
-use crate::stop::rule;
 use automata::tag::Tag;
 use base::run::{Cause, Totals};
-use base::source::{Ending, Next, TagSource};
+use base::source::{Fault, TagSource};
 use base::table::Table;
 use choosing::kind::SelectorKind;
 use grading::clash::Clash;
-use grading::grade::{Grade, Graded};
+use grading::grade::Graded;
 use std::str::from_utf8;
 use std::{fmt, io};
 use text::labels::Labels;
@@ -32,18 +31,15 @@ impl fmt::Display for Names<'_> {
     }
 }
 
-/// Prints why a drain stopped, if not at a clean end; whether it was one.
-pub fn cause(rt: &HostRuntime, path: &str, cause: Cause) -> io::Result<bool> {
+/// Prints why a drain stopped before a clean end, and tells the rule.
+pub fn cause(rt: &HostRuntime, path: &str, cause: Cause) -> io::Result<()> {
     let (word, refusal, unit, at) = match cause {
-        Cause::Ended(Ending::Clean) => return Ok(true),
-        Cause::Ended(Ending::Fault { refusal, line }) => ("fault", refusal, "line", line),
+        Cause::Fault(Fault { refusal, line }) => ("fault", refusal, "line", line),
         Cause::Refused { refusal, tag } => ("refused", refusal, "tag", tag),
     };
-    let number = refusal.number();
-    let rule = rule(refusal);
+    let number = u8::from(refusal);
     println!(rt; "{word}\t{number}\t{unit}\t{at}")?;
-    eprintln!(rt; "refused {number}: {path}, {unit} {at}: {rule}")?;
-    Ok(false)
+    eprintln!(rt; "refused {number}: {path}, {unit} {at}: {refusal}")
 }
 
 pub fn totals(rt: &HostRuntime, totals: Totals) -> io::Result<()> {
@@ -65,7 +61,7 @@ pub fn picks<T: TagSource>(
     let mut picks = picks.iter().copied().peekable();
     let mut path = Vec::new(rt.alloc());
     let mut element: u32 = 0;
-    while let Next::Tag(tag) = source.next() {
+    while let Ok(Some(tag)) = source.next() {
         match tag {
             Tag::Open(label) => {
                 path.push(label)?;
@@ -85,13 +81,8 @@ pub fn picks<T: TagSource>(
 
 /// Prints how many states the table and its minimal table have, the grade, and how many components there are.
 pub fn grade(rt: &HostRuntime, table: &Table, graded: &Graded) -> io::Result<()> {
-    let grade = match graded.grade {
-        Grade::Registerless => "registerless",
-        Grade::Stackless => "stackless",
-        Grade::Neither => "neither",
-    };
     println!(rt; "states\t{}\t{}", table.states(), graded.table.states())?;
-    println!(rt; "grade\t{grade}")?;
+    println!(rt; "grade\t{}", graded.grade)?;
     println!(rt; "components\t{}", graded.components)
 }
 
