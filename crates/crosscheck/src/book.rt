@@ -7,7 +7,7 @@ use base::run::{Cause, Drained, Opened, Totals};
 use std::alloc::{AllocError, Global};
 use text::refusal::Refusal;
 
-/// The most levels that a limit can ask for.
+/// The most levels that a limit can ask for; not the constant of the library, which is held to it.
 pub const MOST_LEVELS: u32 = 65_535;
 
 /// What a run is begun with: the labels and the levels that its selector has, and the limit.

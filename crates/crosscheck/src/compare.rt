@@ -1,4 +1,4 @@
-//! Runs of the library, each call of them trial to the book.
+//! Runs of the library, each call of them held to the book.
 use crate::answers::Answer;
 use crate::book::{Book, Terms};
 use crate::checker::{Case, Checker, Way};
@@ -83,7 +83,7 @@ impl<'a> Trial<'a> {
         Ok(selector)
     }
 
-    // What is done with a run. The ways are an enum, since a closure over a trial, which holds a `&mut`, got no proof.
+    // What is done with a run. An enum says it and no closure: with one that takes a trial, which holds a `&mut`, there was no proof.
     fn go<S: Selector>(&mut self, way: Way, run: &mut Run<S>) -> anyhow::Result<()> {
         match way {
             Way::Making => Ok(()),
@@ -98,9 +98,7 @@ impl<'a> Trial<'a> {
     // Drains the tag lines.
     fn drain_lines<S: Selector>(&mut self, run: &mut Run<S>) -> anyhow::Result<()> {
         let document = self.case.document;
-        let mut source = LineSource::new(self.case.query.names, document.lines.as_bytes()).map_err(
-            |_| anyhow::anyhow!("too long"),
-        )?;
+        let mut source = LineSource::new(self.case.query.names, document.lines.as_bytes())?;
         self.drain(run, &mut source, document.as_lines())
     }
 

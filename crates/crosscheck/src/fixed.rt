@@ -131,9 +131,7 @@ impl Checker {
         selector: S,
     ) -> anyhow::Result<()> {
         let bytes = vec![in self.rt.alloc(); 0_u8; 65_536]?;
-        let mut source = PackedSource::new(bytes.as_slice()).map_err(|_| anyhow::anyhow!(
-            "too long"
-        ))?;
+        let mut source = PackedSource::new(bytes.as_slice())?;
         let mut list = [9; 3];
         let mut run = Run::begin(selector, MOST_LEVELS);
         let drained = run.drain(&mut source, &mut list);

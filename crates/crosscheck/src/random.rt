@@ -1,4 +1,4 @@
-//! Fixed pseudo-random numbers: the same ones in every run of the program.
+//! Fixed pseudo-random numbers: the same ones in every run of the program. They are made here, since the printed counts go by them.
 
 /// A linear congruential generator of 64 bits, of which the upper ones are given out.
 #[derive(Drop)]

@@ -17,6 +17,7 @@ use text::refusal::Refusal;
 pub fn pick<'a>(rt: &HostRuntime, options: PickOptions<'a>) -> Result<Outcome, Stop<'a>> {
     let query = load(rt, options.query)?;
     let document = read_file(rt, options.document)?;
+    // A `match`, since a `map_err` to an error with a lifetime that nothing in it names is not covered by the check.
     let chosen = match Chosen::choose(&query.table, Some(options.selector)) {
         Ok(chosen) => chosen,
         Err(refusal) => return Err(Stop::Selector(refusal)),

@@ -7,10 +7,15 @@ use text::refusal::Refusal;
 /// What was wrong with the words, or refused, or not to be had.
 #[derive(Drop)]
 pub enum Stop<'a> {
+    /// The words ask for nothing that there is.
     Words,
+    /// A file cannot be read.
     Unreadable { path: &'a str, error: io::Error },
+    /// A file is refused as a whole.
     Text { path: &'a str, refusal: Refusal },
+    /// A path over labels is refused.
     Path { path: &'a str, refusal: Refusal },
+    /// The selector that was asked for does not serve the query.
     Selector(Refusal),
     System(anyhow::Error),
 }
