@@ -20,7 +20,7 @@ mod writing;
 use crate::steps::{child, descendant};
 use crate::survey::Survey;
 use crate::writing::label_line;
-use anyhow::anyhow;
+use anyhow::ensure;
 use formats::label_line::read_labels;
 use grading::grade::Grade;
 use paths::path::Step;
@@ -47,14 +47,15 @@ fn main(rt: HostRuntime) -> anyhow::Result<()> {
             }
         }
     }
-    let Survey { mut checker, .. } = survey;
+    let checker = &mut survey.checker;
     let names = names(heap, 2)?;
     checker.hold_limits(&names)?;
     checker.hold_million(&names)?;
     checker.tally.print(&checker.rt)?;
-    if checker.tally.differences > 0 {
-        return Err(anyhow!("the library differs from the second evaluator"));
-    }
+    ensure!(
+        checker.tally.differences == 0,
+        "the library differs from the second evaluator"
+    );
     Ok(())
 }
 
