@@ -65,22 +65,20 @@ impl Checker {
             self.hold_limit(limits, Ok(selector))?;
         }
         for (limit, fits) in FREE_LIMITS {
-            let carry = MOST_LEVELS;
-            let limits = Limits {
-                selector: SelectorKind::Registerless,
-                terms: Terms {
-                    labels,
-                    carry,
-                    limit,
-                },
+            let terms = Terms {
+                labels,
+                carry: MOST_LEVELS,
+                limit,
+            };
+            let limits = |selector| Limits {
+                selector,
+                terms,
                 fits,
             };
-            self.hold_limit(limits, RegisterlessSelector::new(&table))?;
-            let limits = Limits {
-                selector: SelectorKind::Stackless,
-                ..limits
-            };
-            self.hold_limit(limits, StacklessSelector::new(&table))?;
+            let made = RegisterlessSelector::new(&table);
+            self.hold_limit(limits(SelectorKind::Registerless), made)?;
+            let made = StacklessSelector::new(&table);
+            self.hold_limit(limits(SelectorKind::Stackless), made)?;
         }
         Ok(())
     }

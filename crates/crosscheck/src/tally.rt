@@ -36,7 +36,7 @@ impl Tally {
     /// Counts what an expected answer tells.
     pub fn count_answer(&mut self, answer: Answer) {
         if let Some(refusal) = answer.refusal() {
-            count(&mut self.refusals, refusal as usize);
+            count(&mut self.refusals, usize::from(u8::from(refusal)));
         }
         if let Answer::Listed { .. } | Answer::Opened(Opened { picked: true, .. }) = answer {
             self.picks = self.picks.saturating_add(1);
