@@ -14,7 +14,7 @@ use text::refusal::Refusal;
 // The places that an answer takes.
 const PLACES: usize = 4;
 
-// In place of a number of notes, where no notes serve.
+// A number for C in place of an `Option`: no notes serve.
 const NO_NOTES: u32 = 0xffff_ffff;
 
 /// Grades the table of a table text.

@@ -62,6 +62,7 @@ impl Ran {
     }
 }
 
+// The tags are not in it: a source that shares its lifetime would be moved while the stack is lent on, which no proof covers.
 // The memory that a picking call writes to.
 #[derive(Drop)]
 pub(crate) struct Lent<'a> {
