@@ -77,7 +77,9 @@ fn push_names(names: &[u8]) -> Result<Labels, Refusal>
 {
     // `split` gives one field at least.
     let mut fields = names.split(is_tab);
-    let first = fields.next().ok_or(Refusal::NameCount)?;
+    let Some(first) = fields.next() else {
+        unreachable!()
+    };
     let mut labels = Labels::new(first)?;
     for name in fields {
         labels.push(name)?;

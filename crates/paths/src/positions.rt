@@ -7,7 +7,8 @@ ghost use Rattle.paths.specs.Texts.{steps_of};
 use crate::path::{Path, Step, Test};
 use std::marker::Model;
 
-// One bit for each position, the lowest for the first.
+// One bit for each position, the lowest for the first. A type of its own beside the set of states of `grading`: this one is seen
+// as a number, as the definitions number sets, and the two share `holds` and `with` alone.
 #[derive(Clone, Copy, PartialEq, Eq)]
 pub(crate) struct PositionSet {
     bits: u16,

@@ -1,5 +1,6 @@
 -- What the decimal text of a number below 256 looks like.
-use Rattle.std.proofs.Common.{◌≡◌, ℕ, ◌+◌, ◌-◌, ◌*◌, ◌^◌, ◌<◌, ◌≤◌, List, length, get_or, take, decimal, sym, ap, ◌∙◌, subst, ⊎_elim, arith}
+use Rattle.std.proofs.Common.{◌≡◌, ℕ, ◌+◌, ◌-◌, ◌*◌, ◌^◌, ◌<◌, ◌≤◌, List, length, get_or, take, decimal, Ok, Err, Result, sym, ap, ◌∙◌, subst, ⊎_elim, arith}
+use Rattle.std.specs.Result.{OkIff, result_ok}
 use Rattle.std.specs.Str.Parse.{AllDigits, digits_value}
 use Rattle.std.specs.Int.{IsInRange}
 use Rattle.std.specs.Char.{digit_value}
@@ -7,6 +8,7 @@ use Rattle.std.proofs.lemmas.Fmt.{decimal_is_IsNumeral, decimal_digit, decimal_n
 use Rattle.std.proofs.lemmas.Int.Digits.{digits_more, digits_value_more}
 use Rattle.std.proofs.lemmas.List.{length-take-le, take_all}
 use Rattle.std.proofs.lemmas.Str.Parse.{IsNumeralModel, numerals_by_value, tells_digits, digit_at, digits_value_short}
+use Rattle.text.specs.Numbers.{Number}
 use Rattle.std.proofs.lemmas.Bool.{cond-true, cond-false, lt-ltb, le-ltb, cases_lt}
 
 own : IsNumeralModel (AllDigits 10) (digits_value 10)
@@ -60,3 +62,8 @@ read_decimal field i n h r some zero small =
     let whole = read_all field i n h r in
     let below : digits_value 10 field < 2 ^ 64 = omega (arith, whole.1) in
     sym (decimal-digits_value own field whole.0 some zero below) ∙ ap decimal (sym whole.1)
+
+-- the number that was read, where it fits a byte
+pub number_by : {E : Type 0} (field : List ℕ) (n : ℕ) (r : Result ℕ E) → OkIff r (n < 256) n → (n ≤ 255 → field ≡ decimal n) → ((m : ℕ) → m < 256 → field ≡ decimal m → n ≡ m) → Number field (result_ok r)
+number_by field n (Ok x) fits writes one = rw fits.1 (writes (omega (arith, fits.0)))
+number_by field n (Err e) large writes one = λ m small e'. large (omega (arith, one m small e', small))

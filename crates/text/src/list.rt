@@ -13,8 +13,15 @@ pub struct ArrayList<T, const N: usize> {
 
 impl<T: Copy, const N: usize> Copy for ArrayList<T, N> {}
 
-// Written out, since a derive could not say that the ghost field holds of the copy.
+// Written out: over a type parameter no derive of `Clone` goes with a ghost field.
 impl<T: Copy, const N: usize> Clone for ArrayList<T, N> {
+    ghost use Rattle.std.specs.Prelude.{◌≡◌, ⊤};
+
+    // The same list, and never out of memory.
+    ghost is_clone = { λ list copy. copy ≡ list };
+
+    ghost is_infallible = { λ _. ⊤ };
+
     fn clone(&self) -> Result<Self, AllocError> {
         Ok(*self)
     }

@@ -18,5 +18,5 @@ pub fn read_number(field: &[u8]) -> Option<u8>
         }
         n = n * 10 + (*b - b'0') as u16;
     }
-    if n > 255 { None } else { Some(n as u8) }
+    u8::try_from(n).ok()
 }

@@ -1,5 +1,5 @@
 use Rattle.std.proofs.Common.{arith, rules}
-use Rattle.text.proofs.Decimal.{written, read_small, read_more, read_all, read_decimal}
+use Rattle.text.proofs.Decimal.{written, read_small, read_more, read_all, read_decimal, number_by}
 use Rattle.text.proofs.numbers.read_number.Goals as goal
 
 pub returns-then-is_empty : goal.returns-then-is_empty
@@ -22,11 +22,7 @@ overflow_add-n c =
 pub loop-b-preserved : goal.loop-b-preserved
 loop-b-preserved c = search (rules, read_more)
 
-pub returns-then-n-gt255 : goal.returns-then-n-gt255
-returns-then-n-gt255 c n small e =
-    let w = written _ n small e in
+pub returns : goal.returns
+returns c =
     let read = read_all c.args.field.now _ _ c.loop-b-test.false c.loop-b.invariant in
-    search rules
-
-pub returns-else-n-gt255 : goal.returns-else-n-gt255
-returns-else-n-gt255 c = search (rules, read_decimal)
+    rw c.ok.ensures.value (number_by c.args.field.now c.loop-b.n c.try_from.result c.try_from.ensures (search (rules, read_decimal)) (λ m small e. let w = written _ m small e in search rules))
