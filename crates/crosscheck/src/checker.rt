@@ -2,6 +2,7 @@
 use crate::answers::Answer;
 use crate::book::Terms;
 use crate::document::Document;
+use crate::rules::number;
 use crate::tally::Tally;
 use crate::wanted::Wanted;
 use base::table::Table;
@@ -96,8 +97,9 @@ impl Checker {
         println!(rt;
             "difference\tquery\t{query}\tlabels\t{labels}\tselector\t{selector}\tlevels\t{carry}\tlimit\t{limit}\tway\t{way}"
         )?;
-        println!(rt; "expected\t{expected:?}\ngot\t{got:?}\ndocument")?;
-        println!(rt; "{}", case.document.lines.as_str())?;
+        self.show(expected, got)?;
+        let rt = &self.rt;
+        println!(rt; "document\n{}", case.document.lines.as_str())?;
         Ok(())
     }
 
@@ -110,7 +112,8 @@ impl Checker {
     ) -> anyhow::Result<()> {
         if !self.agrees(expected, got) {
             let rt = &self.rt;
-            println!(rt; "difference\t{what}\nexpected\t{expected:?}\ngot\t{got:?}")?;
+            println!(rt; "difference\t{what}")?;
+            self.show(expected, got)?;
         }
         Ok(())
     }
@@ -131,10 +134,22 @@ impl Checker {
         self.made(text, made)
     }
 
-    // Whether there is nothing to show; a difference is counted.
+    // Prints the answers, and the number of the rule where one refuses.
+    fn show(&self, expected: Answer, got: Answer) -> anyhow::Result<()> {
+        let rt = &self.rt;
+        println!(rt;
+            "expected\t{expected:?}\t{:?}",
+            expected.refusal().map(number)
+        )?;
+        println!(rt; "got\t{got:?}\t{:?}", got.refusal().map(u8::from))?;
+        Ok(())
+    }
+
+    // Whether there is nothing to show; a difference is counted. A refusal is also held by the number that the library reports.
     fn agrees(&mut self, expected: Answer, got: Answer) -> bool {
         self.tally.count_answer(expected);
-        if expected == got {
+        let reported = got.refusal().map(u8::from);
+        if expected == got && expected.refusal().map(number) == reported {
             return true;
         }
         self.tally.differences = self.tally.differences.saturating_add(1);

@@ -96,9 +96,10 @@ impl Document {
 
     // What is wrong with the line of the tag at this place.
     fn flaw_at(&self, at: usize, tag: Tag) -> Option<Flaw> {
+        let (Tag::Open(label) | Tag::Close(label)) = tag;
         match self.flawed {
             Some(flawed) if flawed.at == at => Some(flawed.flaw),
-            _ if tag.label() >= self.labels => Some(Flaw::UnknownName),
+            _ if label >= self.labels => Some(Flaw::UnknownName),
             _ => None,
         }
     }

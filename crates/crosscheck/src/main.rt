@@ -10,6 +10,7 @@ mod document;
 mod fixed;
 mod generate;
 mod random;
+mod rules;
 mod steps;
 mod sums;
 mod survey;

@@ -1,5 +1,6 @@
 //! What was compared, counted.
 use crate::answers::Answer;
+use crate::rules::number;
 use base::run::Opened;
 use choosing::kind::SelectorKind;
 use grading::grade::Grade;
@@ -36,7 +37,7 @@ impl Tally {
     /// Counts what an expected answer tells.
     pub fn count_answer(&mut self, answer: Answer) {
         if let Some(refusal) = answer.refusal() {
-            count(&mut self.refusals, usize::from(u8::from(refusal)));
+            count(&mut self.refusals, usize::from(number(refusal)));
         }
         if let Answer::Listed { .. } | Answer::Opened(Opened { picked: true, .. }) = answer {
             self.picks = self.picks.saturating_add(1);

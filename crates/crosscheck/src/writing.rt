@@ -50,7 +50,7 @@ pub fn tag_lines(
     for (at, tag) in tags.iter().enumerate() {
         let parts = match flawed {
             Some(flawed) if flawed.at == at => flawed_line(*tag, flawed.flaw),
-            _ => [mark(*tag), "\t", name(tag.label()), "\n"],
+            _ => [mark(*tag), "\t", name_in(*tag), "\n"],
         };
         for part in parts {
             lines.push_str(part)?;
@@ -67,10 +67,17 @@ fn mark(tag: Tag) -> &'static str {
     }
 }
 
+// The name in a tag line.
+fn name_in(tag: Tag) -> &'static str {
+    match tag {
+        Tag::Open(label) | Tag::Close(label) => name(label),
+    }
+}
+
 // The mark, the tab, the name and the newline of a faulty line, as far as it has them.
 fn flawed_line(tag: Tag, flaw: Flaw) -> [&'static str; 4] {
     let mark = mark(tag);
-    let name = name(tag.label());
+    let name = name_in(tag);
     match flaw {
         Flaw::Empty => ["", "", "", "\n"],
         Flaw::NoTab => [mark, "", name, "\n"],
