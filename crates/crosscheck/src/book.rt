@@ -116,10 +116,10 @@ impl<'a> Book<'a> {
         picked: &mut Vec<u32>,
     ) -> Result<Drained, AllocError> {
         let before = self.totals.picks;
-        let mut offered = 0u32;
+        let mut offered = 0;
         let mut end = reading.end.map_err(Cause::Fault);
-        for tag in reading.tags {
-            offered = offered.saturating_add(1);
+        for (number, tag) in (1u32..).zip(reading.tags) {
+            offered = number;
             match self.take(*tag)? {
                 Answer::Opened(
                     Opened {
@@ -128,8 +128,10 @@ impl<'a> Book<'a> {
                     },
                 ) => picked.push(element)?,
                 Answer::Refused(refusal) => {
-                    let tag = offered;
-                    end = Err(Cause::Refused { refusal, tag });
+                    end = Err(Cause::Refused {
+                        refusal,
+                        tag: number,
+                    });
                     break;
                 }
                 _ => {}
