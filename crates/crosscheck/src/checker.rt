@@ -9,7 +9,6 @@ use base::table::Table;
 use choosing::kind::SelectorKind;
 use grading::grade::Grade;
 use paths::path::Path;
-use std::fmt;
 use std::fmt::Display;
 use text::labels::Labels;
 use text::refusal::Refusal;
@@ -28,7 +27,7 @@ pub struct Query<'a> {
     pub grade: Grade,
 }
 
-/// One query over one document by one selector, in one way; lists have so many places.
+/// One query over one document by one selector, in the way of this name; lists have so many places.
 #[derive(Clone, Copy)]
 pub struct Case<'a> {
     pub query: Query<'a>,
@@ -36,32 +35,7 @@ pub struct Case<'a> {
     pub selector: SelectorKind,
     pub terms: Terms,
     pub places: usize,
-    pub way: Way,
-}
-
-/// What is done with the library in a case: a selector is made, or a run of it drains the tag lines, the packed bytes, at once
-/// or in two halves, takes the tags by single calls, or drains the packed bytes until a million elements were opened.
-#[derive(Clone, Copy)]
-pub enum Way {
-    Making,
-    Lines,
-    Bytes,
-    Halves,
-    Calls,
-    Million,
-}
-
-impl fmt::Display for Way {
-    fn fmt<W: fmt::Write>(&self, f: &mut fmt::Formatter<W>) -> fmt::Result {
-        f.write_str(match self {
-            Way::Making => "making",
-            Way::Lines => "lines",
-            Way::Bytes => "bytes",
-            Way::Halves => "halves",
-            Way::Calls => "calls",
-            Way::Million => "a million openings",
-        })
-    }
+    pub way: &'static str,
 }
 
 /// Where it prints, and what it counts.

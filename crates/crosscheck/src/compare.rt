@@ -1,11 +1,10 @@
 //! Runs of the library, each call of them held to the book.
 use crate::answers::Answer;
 use crate::book::{Book, Terms};
-use crate::checker::{Case, Checker, Way};
+use crate::checker::{Case, Checker};
 use crate::document::Reading;
-use crate::writing::packed;
+use crate::ways::{Bytes, Calls, Halves, Lines, Way};
 use automata::tag::Tag;
-use base::lines::LineSource;
 use base::packed::PackedSource;
 use base::run::{Run, Totals};
 use base::selector::Selector;
@@ -20,8 +19,8 @@ const BLANK: u32 = 4_000_000_000;
 /// A case that is run, and the book of the present run.
 #[derive(Drop)]
 pub struct Trial<'a> {
-    checker: &'a mut Checker,
-    case: Case<'a>,
+    pub checker: &'a mut Checker,
+    pub case: Case<'a>,
     book: Book<'a>,
 }
 
@@ -50,10 +49,10 @@ impl<'a> Trial<'a> {
         let carries = self.case.terms.carries();
         self.checker
             .hold(self.case, carries, Answer::of_selector(&selector))?;
-        let mut selector = self.by_lines(selector)?;
-        for way in [Way::Bytes, Way::Halves, Way::Calls] {
-            selector = self.hold_run(way, Run::begin(selector, limit))?;
-        }
+        let selector = self.by_lines(selector)?;
+        let selector = self.hold_run(Bytes, Run::begin(selector, limit))?;
+        let selector = self.hold_run(Halves, Run::begin(selector, limit))?;
+        let selector = self.hold_run(Calls, Run::begin(selector, limit))?;
         drop(selector);
         Ok(())
     }
@@ -61,7 +60,7 @@ impl<'a> Trial<'a> {
     // A run that drains the tag lines, begun by the call that grades the query.
     fn by_lines<S: Selector + Drop>(&mut self, selector: S) -> anyhow::Result<S> {
         let Begun { graded, run } = begin(self.case.query.table, selector, self.case.terms.limit);
-        let selector = self.hold_run(Way::Lines, run)?;
+        let selector = self.hold_run(Lines, run)?;
         let expected = Answer::Graded(self.case.query.grade);
         self.checker
             .hold(self.case, expected, Answer::Graded(graded.grade))?;
@@ -69,75 +68,26 @@ impl<'a> Trial<'a> {
     }
 
     /// Holds a run to a blank book, and gives the selector back.
-    pub fn hold_run<S: Selector + Drop>(&mut self, way: Way, mut run: Run<S>) -> anyhow::Result<S> {
-        self.case.way = way;
+    pub fn hold_run<W: Way + Copy, S: Selector + Drop>(
+        &mut self,
+        way: W,
+        mut run: Run<S>,
+    ) -> anyhow::Result<S> {
+        self.case.way = W::NAME;
         self.book = Book::new(
             self.checker.rt.alloc(),
             self.case.query.wanted,
             self.case.terms,
         );
-        let done = self.go(way, &mut run);
+        let done = way.go(self, &mut run);
         let (totals, selector) = run.end();
         done?;
         self.end(totals)?;
         Ok(selector)
     }
 
-    // What is done with a run. An enum says it and no closure: with one that takes a trial, which holds a `&mut`, there was no proof.
-    fn go<S: Selector>(&mut self, way: Way, run: &mut Run<S>) -> anyhow::Result<()> {
-        match way {
-            Way::Making => Ok(()),
-            Way::Lines => self.drain_lines(run),
-            Way::Bytes => self.drain_bytes(run),
-            Way::Halves => self.drain_halves(run),
-            Way::Calls => self.call_each(run),
-            Way::Million => self.open_million(run),
-        }
-    }
-
-    // Drains the tag lines.
-    fn drain_lines<S: Selector>(&mut self, run: &mut Run<S>) -> anyhow::Result<()> {
-        let document = self.case.document;
-        let mut source = LineSource::new(self.case.query.names, document.lines.as_bytes())?;
-        self.drain(run, &mut source, document.as_lines())
-    }
-
-    // Drains the packed bytes.
-    fn drain_bytes<S: Selector>(&mut self, run: &mut Run<S>) -> anyhow::Result<()> {
-        let document = self.case.document;
-        self.drain_packed(run, document.bytes.as_slice(), document.as_packed())
-    }
-
-    // Drains the packed bytes in two halves.
-    fn drain_halves<S: Selector>(&mut self, run: &mut Run<S>) -> anyhow::Result<()> {
-        let Reading { tags, end } = self.case.document.as_packed();
-        let (front, back) = tags.split_at(tags.len() / 2);
-        for tags in [front, back] {
-            let bytes = packed(self.checker.rt.alloc(), tags)?;
-            self.drain_packed(run, bytes.as_slice(), Reading { tags, end })?;
-        }
-        Ok(())
-    }
-
-    // Drains the packed bytes below an open root until there are too many openings, and once more.
-    fn open_million<S: Selector>(&mut self, run: &mut Run<S>) -> anyhow::Result<()> {
-        self.call(run, Tag::Open(0))?;
-        for _ in 0..32 {
-            self.drain_bytes(run)?;
-        }
-        Ok(())
-    }
-
-    // Offers the tags by single calls, and goes on after refusals.
-    fn call_each<S: Selector>(&mut self, run: &mut Run<S>) -> anyhow::Result<()> {
-        for tag in self.case.document.tags.as_slice() {
-            self.call(run, *tag)?;
-        }
-        Ok(())
-    }
-
-    // Holds a call to the book's answer.
-    fn call<S: Selector>(&mut self, run: &mut Run<S>, tag: Tag) -> anyhow::Result<()> {
+    /// Holds a call to the book's answer.
+    pub fn call<S: Selector>(&mut self, run: &mut Run<S>, tag: Tag) -> anyhow::Result<()> {
         let expected = self.book.take(tag)?;
         let got = match tag {
             Tag::Open(label) => Answer::from(run.open(label)),
@@ -146,8 +96,8 @@ impl<'a> Trial<'a> {
         self.hold(expected, got)
     }
 
-    // Holds a drain to the book's: its answer, and each place of its list.
-    fn drain<S: Selector, T: TagSource>(
+    /// Holds a drain to the book's: its answer, and each place of its list.
+    pub fn drain<S: Selector, T: TagSource>(
         &mut self,
         run: &mut Run<S>,
         source: &mut T,
@@ -165,8 +115,8 @@ impl<'a> Trial<'a> {
         Ok(())
     }
 
-    // Holds a drain of packed bytes to the book's.
-    fn drain_packed<S: Selector>(
+    /// Holds a drain of packed bytes to the book's.
+    pub fn drain_packed<S: Selector>(
         &mut self,
         run: &mut Run<S>,
         bytes: &[u8],

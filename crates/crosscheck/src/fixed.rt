@@ -1,11 +1,12 @@
 //! Fixed cases: limits that fit or not, the deepest run, and a run of a million openings.
 use crate::answers::Answer;
 use crate::book::{MOST_LEVELS, Terms};
-use crate::checker::{Case, Checker, Query, Way};
+use crate::checker::{Case, Checker, Query};
 use crate::compare::Trial;
 use crate::document::Document;
 use crate::steps::child;
 use crate::wanted::Wanted;
+use crate::ways::Million;
 use automata::tag::Tag;
 use base::packed::PackedSource;
 use base::run::{Cause, Drained, Opened, Run, Totals};
@@ -188,7 +189,7 @@ impl Checker {
                 limit: 2,
             },
             places: 4,
-            way: Way::Making,
+            way: "making",
         };
         self.hold_openings(case, &mut [0xee; 2])
     }
@@ -197,7 +198,7 @@ impl Checker {
     fn hold_openings<'a>(&mut self, case: Case<'a>, bytes: &'a mut [u8]) -> anyhow::Result<()> {
         let selector = StackSelector::new(case.query.table, bytes);
         let run = Run::begin(selector, case.terms.limit);
-        let selector = Trial::new(self, case).hold_run(Way::Million, run)?;
+        let selector = Trial::new(self, case).hold_run(Million, run)?;
         drop(selector);
         Ok(())
     }

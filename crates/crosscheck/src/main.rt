@@ -16,6 +16,7 @@ mod sums;
 mod survey;
 mod tally;
 mod wanted;
+mod ways;
 mod writing;
 
 use crate::steps::{child, descendant};

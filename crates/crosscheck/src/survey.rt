@@ -1,7 +1,7 @@
 //! The survey: generated paths over generated documents, by each selector that serves them.
 use crate::answers::Answer;
 use crate::book::{MOST_LEVELS, Terms};
-use crate::checker::{Case, Checker, Query, Way};
+use crate::checker::{Case, Checker, Query};
 use crate::compare::Trial;
 use crate::damage::KINDS;
 use crate::document::Document;
@@ -234,7 +234,7 @@ impl Survey {
                 limit,
             },
             places: places as usize,
-            way: Way::Making,
+            way: "making",
         }
     }
 }
