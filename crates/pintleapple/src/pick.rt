@@ -9,6 +9,7 @@ use base::packed::PackedSource;
 use base::selector::MAX_LEVELS;
 use base::source::TagSource;
 use choosing::chosen::Chosen;
+use choosing::kind::SelectorKind;
 use choosing::reading::Reading;
 use formats::table_text::TableText;
 use text::refusal::Refusal;
@@ -62,7 +63,12 @@ impl<'d, 'a> Job<'d, 'a> {
         let path = self.options.document;
         let refused = |refusal| Stop::Text { path, refusal };
         let kind = chosen.kind();
-        let mut stack = vec![in self.rt.alloc(); 0u8; MAX_LEVELS as usize]?;
+        // only the stack selector takes a byte for each level
+        let levels = match kind {
+            SelectorKind::Stack => MAX_LEVELS,
+            _ => 0,
+        };
+        let mut stack = vec![in self.rt.alloc(); 0u8; levels as usize]?;
         let mut picks = vec![in self.rt.alloc(); 0u32; self.document.len()]?;
         let limit = self.options.limit.unwrap_or(chosen.carry(stack.as_slice()));
         let source = make().map_err(refused)?;

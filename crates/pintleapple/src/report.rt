@@ -61,7 +61,9 @@ pub fn picks<T: TagSource>(
     let mut picks = picks.iter().copied().peekable();
     let mut path = Vec::new(rt.alloc());
     let mut element: u32 = 0;
-    while let Ok(Some(tag)) = source.next() {
+    while picks.peek().is_some()
+        && let Ok(Some(tag)) = source.next()
+    {
         match tag {
             Tag::Open(label) => {
                 path.push(label)?;
