@@ -12,6 +12,7 @@ use choosing::chosen::Chosen;
 use choosing::kind::SelectorKind;
 use choosing::reading::Reading;
 use formats::table_text::TableText;
+use std::alloc::AllocError;
 use text::refusal::Refusal;
 
 /// Picks from a document, and prints what came of it.
@@ -52,6 +53,15 @@ impl<'d, 'a> Job<'d, 'a> {
         }
     }
 
+    // The bytes that a selector is lent: one for each level, and only for the stack selector.
+    fn stack(self, kind: SelectorKind) -> Result<Vec<u8>, AllocError> {
+        let levels = match kind {
+            SelectorKind::Stack => MAX_LEVELS,
+            _ => 0,
+        };
+        vec![in self.rt.alloc(); 0u8; levels as usize]
+    }
+
     // Picks from the source that is made; it is made once more for the paths of the picked elements.
     fn pick_from<T: TagSource + Drop, F: Fn() -> Result<T, Refusal>>(
         self,
@@ -63,12 +73,7 @@ impl<'d, 'a> Job<'d, 'a> {
         let path = self.options.document;
         let refused = |refusal| Stop::Text { path, refusal };
         let kind = chosen.kind();
-        // only the stack selector takes a byte for each level
-        let levels = match kind {
-            SelectorKind::Stack => MAX_LEVELS,
-            _ => 0,
-        };
-        let mut stack = vec![in self.rt.alloc(); 0u8; levels as usize]?;
+        let mut stack = self.stack(kind)?;
         let mut picks = vec![in self.rt.alloc(); 0u32; self.document.len()]?;
         let limit = self.options.limit.unwrap_or(chosen.carry(stack.as_slice()));
         let source = make().map_err(refused)?;
