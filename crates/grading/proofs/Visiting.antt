@@ -1,34 +1,33 @@
 -- Visits of one pair, of none, and of some after others.
-use Rattle.std.proofs.Common.{◌≡◌, ℕ, ◌+◌, ◌<◌, Ok, Err, Result, ◌⊎◌, ◌↔◌, length, sym, refl, ap, ◌∙◌, subst, inl, inr, ⊎_elim, arith, length-set}
+use Rattle.std.proofs.Common.{◌≡◌, ℕ, ◌+◌, ◌<◌, Ok, Err, Result, ◌⊎◌, ◌↔◌, [], ◌∷◌, ◌++◌, sym, refl, ◌∙◌, subst, inl, inr, ⊎_elim, arith}
 use native.Mathlib.Decide.{ℕ_discrete}
-use Rattle.base.specs.Stacks.{used, Stored, Pushes}
+use Rattle.text.specs.Lists.{items, Pushes}
 use Rattle.grading.specs.Pairing.{Adds}
 use Rattle.grading.specs.StateSets.{In, Taken}
-use Rattle.grading.specs.Worklists.{Found, Room, Visits, Among, Below}
+use Rattle.grading.specs.Worklists.{Found, Visits, Among, Below}
 use Rattle.grading.specs.declared.products.Pair.{Pair}
 use Rattle.grading.specs.declared.states.StateSet.{StateSet}
 use Rattle.grading.specs.declared.worklist.Worklist.{Worklist}
-use Rattle.grading.proofs.Stored.{push_kept, push_new, push_only}
+use Rattle.grading.proofs.Stored.{longer, waits_kept, waits_last, waits_either}
 
 abbrev One : ℕ → ℕ → ℕ → ℕ → Type 0
 One p q r u = (r ≡ p) × (u ≡ q)
 
 -- a pair that was not yet found is added and pushed
-module _ (s t : Worklist) (x : Pair) (adds : Adds s.found x.first x.second t.found) (new : ¬ Found s x.first x.second) (room : Room s) where
-  stored : Stored s.waiting x t.waiting → Visits (One x.first x.second) s t
+module _ (s t : Worklist) (x : Pair) (adds : Adds s.found x.first x.second t.found) (new : ¬ Found s x.first x.second) where
+  stored : items t.waiting ≡ items s.waiting ++ x ∷ [] → Visits (One x.first x.second) s t
   stored h = record {
     kept = λ r u e. (adds.each r u).1 (inl e);
     all = λ r u e. (adds.each r u).1 (inr e);
-    only = λ r u e. ⊎_elim inl (λ (a, b). inr ((a, b), push_new s t x h r u (sym a, sym b))) ((adds.each r u).0 e);
-    waits = push_kept s t x h;
-    listed = λ r u w. ⊎_elim inl (λ (a, b). inr (sym a, sym b)) (push_only s t x h r u w);
-    load = omega (arith, adds.fewer new, h.used);
-    size = ap length h.places ∙ length-set s.waiting.places.now (used s.waiting) x;
+    only = λ r u e. ⊎_elim inl (λ (a, b). inr ((a, b), waits_last s t x h r u (sym a, sym b))) ((adds.each r u).0 e);
+    waits = waits_kept s t x h;
+    listed = λ r u w. ⊎_elim inl (λ (a, b). inr (sym a, sym b)) (waits_either s t x h r u w);
+    load = omega (arith, adds.fewer new, longer s t x h);
   }
 
-  pub visits_new : (r : Result (Unit {0}) Pair) → Pushes s.waiting x t.waiting r → Visits (One x.first x.second) s t
+  pub visits_new : (r : Result (Unit {0}) Pair) → Pushes 1024 s.waiting x t.waiting r → Visits (One x.first x.second) s t
   visits_new (Ok _) h = stored h
-  visits_new (Err _) (full, _, _) = absurd (omega (arith, adds.fewer new, room, full))
+  visits_new (Err _) (full, _, _) = absurd (omega (arith, adds.fewer new, s.room, full))
 
 module _ (P : ℕ → ℕ → Type 0) where
   -- all that is wanted was found before
@@ -40,14 +39,10 @@ module _ (P : ℕ → ℕ → Type 0) where
     waits = λ p q w. w;
     listed = λ p q w. inl w;
     load = refl;
-    size = refl;
   }
 
   pub visits_none : (s : Worklist) → ((p q : ℕ) → ¬ P p q) → Visits P s s
   visits_none s none = visits_old s (λ p q h. absurd (none p q h))
-
-  pub room_kept : (s t : Worklist) → Visits P s t → Room s → Room t
-  room_kept s t v room = omega (arith, v.load, v.size, room)
 
   -- what is wanted in all is wanted first or after
   pub visits_more : (Q R : ℕ → ℕ → Type 0) (s t u : Worklist) → Visits P s t → Visits Q t u → ((p q : ℕ) → P p q → R p q) → ((p q : ℕ) → Q p q → R p q) → ((p q : ℕ) → R p q → P p q ⊎ Q p q) → Visits R s u
@@ -58,7 +53,6 @@ module _ (P : ℕ → ℕ → Type 0) where
     waits = λ p q e. h.waits p q (g.waits p q e);
     listed = λ p q e. ⊎_elim (λ f. ⊎_elim inl (λ w. inr (from-p p q w)) (g.listed p q f)) (λ w. inr (from-q p q w)) (h.listed p q e);
     load = h.load ∙ g.load;
-    size = h.size ∙ g.size;
   }
 
 -- x is taken out of a set: the pairs with x are visited first, and then those with the others

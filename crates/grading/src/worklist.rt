@@ -1,24 +1,28 @@
 //! A worklist of pairs of states.
-ghost use Rattle.std.specs.Prelude.{◌≡◌, ℕ, ◌<◌, ◌≤◌};
-ghost use Rattle.grading.specs.StateSets.{In};
-ghost use Rattle.grading.specs.Worklists.{Room, Visits, Among, Below};
+ghost use Rattle.std.specs.Prelude.{◌+◌, ◌≤◌, length};
+ghost use Rattle.text.specs.Lists.{items};
+ghost use Rattle.grading.specs.Pairing.{blank};
 
 use crate::pairs::Pairs;
 use crate::products::{Moves, Pair, Product, Seeds};
 use crate::states::StateSet;
-use base::stack::Stack;
+use text::list::ArrayList;
 
 /// The pairs found so far, and those among them that wait for their predecessors to be visited.
 #[derive(Drop)]
-pub struct Worklist<'a> {
+pub struct Worklist {
     pub found: Pairs,
-    pub waiting: Stack<'a, Pair>,
+    pub waiting: ArrayList<Pair, 1024>,
+    ghost room: { blank found + length (items waiting) ≤ 1024 },
 }
 
-impl Worklist<'_> {
+impl Worklist {
+    ghost use Rattle.std.specs.Prelude.{◌≡◌, ℕ, ◌<◌};
+    ghost use Rattle.grading.specs.StateSets.{In};
+    ghost use Rattle.grading.specs.Worklists.{Visits, Among, Below};
+
     // Adds a pair to those found, unless it is one, and has it wait.
     fn visit(&mut self, pair: Pair)
-        requires { Room self.old }
         ensures { Visits (λ p q. (p ≡ pair.first) × (q ≡ pair.second)) self.old self.new }
     {
         if !self.found.has(pair.first, pair.second) {
@@ -29,7 +33,7 @@ impl Worklist<'_> {
 
     // Visits the pairs of one first state with each of the second ones.
     fn visit_row(&mut self, first: u8, seconds: StateSet)
-        requires { (first < 32) × (Room self.old) }
+        requires { first < 32 }
         ensures { Visits (λ p q. (p ≡ first) × In q seconds) self.old self.new }
     {
         for second in seconds {
@@ -39,7 +43,6 @@ impl Worklist<'_> {
 
     // Visits the pairs of a product.
     fn visit_product(&mut self, product: Product)
-        requires { Room self.old }
         ensures { Visits (λ p q. In p product.firsts × In q product.seconds) self.old self.new }
     {
         for first in product.firsts {
@@ -49,7 +52,7 @@ impl Worklist<'_> {
 
     /// Visits the wanted pairs whose first state is below the count.
     pub fn visit_seeds<S: Seeds>(&mut self, states: u8, seeds: &S)
-        requires { (Room self.old) × (states ≤ 32) }
+        requires { states ≤ 32 }
         ensures { Visits (Below states (S.wanted seeds.now)) self.old self.new }
     {
         for first in 0..states {
@@ -59,7 +62,7 @@ impl Worklist<'_> {
 
     /// Visits the pairs from which a label below the count leads to the pair.
     pub fn visit_before<M: Moves>(&mut self, labels: u8, moves: &M, pair: Pair)
-        requires { (Room self.old) × (labels ≤ 16) }
+        requires { labels ≤ 16 }
         ensures { Visits (Among labels (λ a p q. M.goes moves.now a p q pair.first pair.second)) self.old self.new }
     {
         for label in 0..labels {

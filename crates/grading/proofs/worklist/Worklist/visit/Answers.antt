@@ -6,7 +6,7 @@ use Rattle.grading.proofs.Visiting.{visits_new, visits_old}
 use Rattle.grading.proofs.worklist.Worklist.visit.Goals as goal
 
 pub returns-then-not-has : goal.returns-then-not-has
-returns-then-not-has c = visits_new c.args.self.now (record { found = c.add.new.self; waiting = c.push.new.self }) c.args.pair c.add.ensures (not_from_Decides c.has.result c.has.ensures c.if-not-has.true) c.requires c.push.result c.push.ensures
+returns-then-not-has c = visits_new c.args.self.now _ c.args.pair c.add.ensures (not_from_Decides c.has.result c.has.ensures c.if-not-has.true) c.push.result c.push.ensures
 
 pub returns-else-not-has : goal.returns-else-not-has
 returns-else-not-has c =
