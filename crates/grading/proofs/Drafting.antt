@@ -1,5 +1,5 @@
 -- What a draft says, as it is written place by place.
-use Rattle.std.proofs.Common.{◌≡◌, ℕ, ◌+◌, ◌*◌, ◌<◌, ◌⊎◌, [], ◌∷◌, length, get_or, set, sym, ap, ◌∙◌, subst, inl, inr, arith, length-append}
+use Rattle.std.proofs.Common.{◌≡◌, ℕ, ◌+◌, ◌*◌, ◌<◌, ◌≤◌, ◌⊎◌, [], ◌∷◌, length, get_or, set, sym, ap, ◌∙◌, subst, inl, inr, arith, length-append, length-take}
 use Rattle.std.proofs.Math.ListN.{get_or-append}
 use Rattle.std.proofs.Math.Seq.{get_or-append_seam}
 use native.Mathlib.Decide.{dec_lt}
@@ -17,13 +17,14 @@ use Rattle.grading.proofs.Building.{building_begun, building_row, building_more,
 use Rattle.grading.proofs.Cells.{cell_here, cell_others}
 use Rattle.grading.proofs.Relating.{not_differ}
 
+-- there are no more numbers than a table has states
+pub count_fits : (d : Draft) → count d ≤ 32
+count_fits d = omega (arith, length-take d.old.len d.old.places, d.old.fits)
+
 pub drafted_begun : (t : Table) (d : Draft) (s : ℕ) → s ≡ t.start → items d.old ≡ s ∷ [] → Drafted (automaton t) d 0
 drafted_begun t d s start first =
     let one : count d ≡ 1 = ap length first in
-    record {
-      building = subst (λ m. Building (automaton t) (olds d) m (target d) 0) (sym one) (building_begun (automaton t) (olds d) (target d) (ap (λ l. get_or l 0 0) first ∙ start) t.sized.4);
-      fits = omega (arith, one);
-    }
+    subst (λ m. Building (automaton t) (olds d) m (target d) 0) (sym one) (building_begun (automaton t) (olds d) (target d) (ap (λ l. get_or l 0 0) first ∙ start) t.sized.4)
 
 module _ (t : Table) (marks : Pairs) (agrees : Agrees t.states (Differ (automaton t)) marks) where
   abbrev A : Automaton
@@ -31,12 +32,11 @@ module _ (t : Table) (marks : Pairs) (agrees : Agrees t.states (Differ (automato
 
   -- there is room for a new number
   drafted_room : (d : Draft) (n x : ℕ) → Drafted A d n → x < t.states → ((j : ℕ) → j < (count d) → Has marks (olds d j) x) → (count d) < 32
-  drafted_room d n x h l fresh = room A (olds d) (count d) (target d) n x h.building t.sized.3 l (λ j k. ((agrees (olds d j) x).0 (fresh j k)).2)
+  drafted_room d n x h l fresh = room A (olds d) (count d) (target d) n x h t.sized.3 l (λ j k. ((agrees (olds d j) x).0 (fresh j k)).2)
 
   pub drafted_free : (d : Draft) (n x : ℕ) → Drafted A d n → x < t.states → Free marks d x
   drafted_free d n x h l = record {
-    fits = h.fits;
-    below = λ j k. omega (arith, h.building.below j k, t.sized.3);
+    below = λ j k. omega (arith, h.below j k, t.sized.3);
     room = drafted_room d n x h l;
   }
 
@@ -47,7 +47,7 @@ module _ (t : Table) (marks : Pairs) (agrees : Agrees t.states (Differ (automato
     new = record { old = e.old; targets = set e.targets i (set (get_or e.targets i []) a r) }
 
     x_below : x < t.states
-    x_below = subst (λ y. y < t.states) (sym is) (t.closed (olds d i) a (h.building.below i row) label)
+    x_below = subst (λ y. y < t.states) (sym is) (t.closed (olds d i) a (h.below i row) label)
 
     here : target new i a ≡ r
     here = cell_here 0 e.targets i a r tall wide
@@ -59,17 +59,14 @@ module _ (t : Table) (marks : Pairs) (agrees : Agrees t.states (Differ (automato
     had k =
         let counts : (count e) ≡ (count d) = ap count k.same in
         let same : (j : ℕ) → olds e j ≡ olds d j = λ j. ap (λ y. olds y j) k.same in
-        let unlike : ¬ Differ A (olds d r) x = λ y. k.alike ((agrees (olds d r) x).1 (h.building.below r k.below, x_below, y)) in
+        let unlike : ¬ Differ A (olds d r) x = λ y. k.alike ((agrees (olds d r) x).1 (h.below r k.below, x_below, y)) in
         let like : Equivalent A (A.step (olds d i) a) (olds e r) = λ w word. ap (λ y. A.yes (run A y w)) (sym is) ∙ sym (not_differ A (olds d r) x unlike w word) ∙ ap (λ y. A.yes (run A y w)) (sym (same r)) in (
-          record {
-            building = building_more A t.sized.1 (olds d) (olds e) (count d) (count e) (target d) (target new) i a r h.building row label
-                (omega (arith, counts)) (λ j _. same j) (omega (arith, counts, k.below)) (omega (arith, k.below)) like
-                (λ j l. subst (λ y. y < t.states) (sym (same j)) (h.building.below j (omega (arith, counts))))
-                (λ j q l g. subst (λ y. Differ A y (olds e q)) (sym (same j)) (subst (Differ A (olds d j)) (sym (same q)) (h.building.apart j q l (omega (arith, counts)))))
-                (λ v l g. absurd (omega (arith, counts)))
-                here (others (ap (λ y. y.targets) k.same));
-            fits = omega (arith, counts, h.fits);
-          },
+          building_more A t.sized.1 (olds d) (olds e) (count d) (count e) (target d) (target new) i a r h row label
+              (omega (arith, counts)) (λ j _. same j) (omega (arith, counts, k.below)) (omega (arith, k.below)) like
+              (λ j l. subst (λ y. y < t.states) (sym (same j)) (h.below j (omega (arith, counts))))
+              (λ j q l g. subst (λ y. Differ A y (olds e q)) (sym (same j)) (subst (Differ A (olds d j)) (sym (same q)) (h.apart j q l (omega (arith, counts)))))
+              (λ v l g. absurd (omega (arith, counts)))
+              here (others (ap (λ y. y.targets) k.same)),
           omega (arith, counts),
         )
 
@@ -87,11 +84,11 @@ module _ (t : Table) (marks : Pairs) (agrees : Agrees t.states (Differ (automato
       last j g = sym (ap (olds e) g) ∙ ap (λ l. get_or l (count d) 0) k.old ∙ get_or-append_seam (items d.old) x [] 0
 
       below : (j : ℕ) → j < (count e) → Dec (j < (count d)) → olds e j < t.states
-      below j l (yes g) = subst (λ y. y < t.states) (sym (kept j g)) (h.building.below j g)
+      below j l (yes g) = subst (λ y. y < t.states) (sym (kept j g)) (h.below j g)
       below j l (no g) = subst (λ y. y < t.states) (sym (last j (omega (arith, grows)))) x_below
 
       apart : (j q : ℕ) → j < q → q < (count e) → Dec (q < (count d)) → Differ A (olds e j) (olds e q)
-      apart j q l g (yes f) = subst (λ y. Differ A y (olds e q)) (sym (kept j (omega arith))) (subst (Differ A (olds d j)) (sym (kept q f)) (h.building.apart j q l f))
+      apart j q l g (yes f) = subst (λ y. Differ A y (olds e q)) (sym (kept j (omega arith))) (subst (Differ A (olds d j)) (sym (kept q f)) (h.apart j q l f))
       apart j q l g (no f) =
           let there : j < (count d) = omega (arith, grows) in
           subst (λ y. Differ A y (olds e q)) (sym (kept j there)) (subst (Differ A (olds d j)) (sym (last q (omega (arith, grows)))) ((agrees (olds d j) x).0 (k.fresh j there)).2)
@@ -101,13 +98,10 @@ module _ (t : Table) (marks : Pairs) (agrees : Agrees t.states (Differ (automato
 
       added : Drafted A new (16 * i + (a + 1)) × (i < (count new))
       added = (
-        record {
-          building = building_more A t.sized.1 (olds d) (olds e) (count d) (count e) (target d) (target new) i a r h.building row label
-              (omega (arith, grows)) kept (omega (arith, grows, k.last)) (omega (arith, k.last)) like
-              (λ j l. below j l (dec_lt j (count d))) (λ j q l g. apart j q l g (dec_lt q (count d)))
-              (λ v l g. omega (arith, grows, k.last)) here (others k.targets);
-          fits = omega (arith, grows, free);
-        },
+        building_more A t.sized.1 (olds d) (olds e) (count d) (count e) (target d) (target new) i a r h row label
+            (omega (arith, grows)) kept (omega (arith, grows, k.last)) (omega (arith, k.last)) like
+            (λ j l. below j l (dec_lt j (count d))) (λ j q l g. apart j q l g (dec_lt q (count d)))
+            (λ v l g. omega (arith, grows, k.last)) here (others k.targets),
         omega (arith, grows),
       )
 
@@ -117,7 +111,4 @@ module _ (t : Table) (marks : Pairs) (agrees : Agrees t.states (Differ (automato
 
 -- the labels of the number i are done
 pub drafted_row : (t : Table) (d : Draft) (i l : ℕ) → l ≡ t.labels → i < (count d) → Drafted (automaton t) d (16 * i + l) → Drafted (automaton t) d (16 * (i + 1))
-drafted_row t d i l e h k = record {
-  building = building_row (automaton t) t.sized.1 (olds d) (count d) (target d) i h (subst (λ z. Building (automaton t) (olds d) (count d) (target d) (16 * i + z)) e k.building);
-  fits = k.fits;
-}
+drafted_row t d i l e h k = building_row (automaton t) t.sized.1 (olds d) (count d) (target d) i h (subst (λ z. Building (automaton t) (olds d) (count d) (target d) (16 * i + z)) e k)

@@ -11,6 +11,7 @@ use Rattle.base.specs.declared.table.Row.{Row}
 use Rattle.base.specs.declared.table.Table.{Table}
 use Rattle.grading.specs.Drafts.{olds, count, target as placed, Drafted, RowsOf}
 use Rattle.grading.specs.declared.draft.Draft.{Draft}
+use Rattle.grading.proofs.Drafting.{count_fits}
 use Rattle.grading.proofs.Finishing.{minimised}
 
 -- what passes at each of the first n indices passes everywhere among them
@@ -33,8 +34,8 @@ module _ (t : Table) (d : Draft) (n : ℕ) (h : Drafted (automaton t) d n) (whol
   pub not_refused : parts_refusal (parts l m rows) ≡ None
   not_refused =
       cond-false (not (leb 1 l && leb l 16)) (Some NameCount) _ (not_from_true _ (and_from _ _ (le-leb 1 l (omega (arith, labels, t.sized.0))) (le-leb l 16 (omega (arith, labels, t.sized.1)))))
-      ∙ cond-false (not (leb 1 m && (leb m 32 && ltb 0 m))) (Some StatesLine) _ (not_from_true _ (and_from _ _ (le-leb 1 m (omega (arith, numbers, h.building.some))) (and_from _ _ (le-leb m 32 (omega (arith, numbers, h.fits))) (lt-ltb 0 m (omega (arith, numbers, h.building.some))))))
-      ∙ cond-false (not (rows_each_below l m (take m rows))) (Some Refusal.Row) None (not_from_true _ (rows_from l m rows (λ p a i k. omega (arith, numbers, steps p a (omega arith), h.building.inside p a (omega (arith, labels)) (omega (arith, labels, t.sized.1))))))
+      ∙ cond-false (not (leb 1 m && (leb m 32 && ltb 0 m))) (Some StatesLine) _ (not_from_true _ (and_from _ _ (le-leb 1 m (omega (arith, numbers, h.some))) (and_from _ _ (le-leb m 32 (omega (arith, numbers, count_fits d))) (lt-ltb 0 m (omega (arith, numbers, h.some))))))
+      ∙ cond-false (not (rows_each_below l m (take m rows))) (Some Refusal.Row) None (not_from_true _ (rows_from l m rows (λ p a i k. omega (arith, numbers, steps p a (omega arith), h.inside p a (omega (arith, labels)) (omega (arith, labels, t.sized.1))))))
 
   pub made : (u : Table) → Has (parts l m rows) u → Minimised (automaton t) (automaton u)
-  made u has = minimised (automaton t) t.sized.1 (olds d) (count d) (placed d) n h.building whole (automaton u) (has.labels ∙ labels) (has.states ∙ numbers) has.start (λ r b i. ap (λ rows. target rows r b) has.rows ∙ steps r b i) (λ k i. ap (λ rows. (row rows k).accepts) has.rows ∙ (of k i).1)
+  made u has = minimised (automaton t) t.sized.1 (olds d) (count d) (placed d) n h whole (automaton u) (has.labels ∙ labels) (has.states ∙ numbers) has.start (λ r b i. ap (λ rows. target rows r b) has.rows ∙ steps r b i) (λ k i. ap (λ rows. (row rows k).accepts) has.rows ∙ (of k i).1)

@@ -27,7 +27,6 @@ RowsOf A d rows = (k : ℕ) → k < count d → ((row rows k).targets ≡ slice_
 
 -- an old state t finds its number, or has room for a new one
 pub record Free (differ : Pairs) (d : Draft) (t : ℕ) : Type 0 where
-  pub fits : count d ≤ 32
   pub below : (j : ℕ) → j < count d → olds d j < 32
   pub room : ((j : ℕ) → j < count d → Has differ (olds d j) t) → count d < 32
 
@@ -68,7 +67,6 @@ pub record Building (A : Automaton) (o : ℕ → ℕ) (m : ℕ) (T : ℕ → ℕ
   pub met : (r b v : ℕ) → b < A.labels → 16 * r + b < n → 0 < v → v < T r b → Origin A T (16 * r + b) v
   pub origin : (v : ℕ) → 0 < v → v < m → (x : Origin A T n v) × (x.row < v)
 
--- the draft is built so far, and has no more numbers than a table has states
-pub record Drafted (A : Automaton) (d : Draft) (n : ℕ) : Type 0 where
-  pub building : Building A (olds d) (count d) (target d) n
-  pub fits : count d ≤ 32
+-- the draft is built so far
+abbrev pub Drafted : Automaton → Draft → ℕ → Type 0
+Drafted A d n = Building A (olds d) (count d) (target d) n

@@ -15,7 +15,7 @@ impl Facts<'_> {
     {
         match self.component(state).next() {
             Some(lowest) => lowest,
-            None => unreachable(),
+            None => unreachable!(),
         }
     }
 

@@ -75,7 +75,7 @@ impl Draft {
 
     /// The rows of the numbers: their targets, and yes or no as their old states have it.
     pub fn rows(&self, table: &Table) -> [Row; 32]
-        requires { (count self.now ≤ 32) × (((k : ℕ) → k < count self.now → olds self.now k < (automaton table.now).states)) }
+        requires { (k : ℕ) → k < count self.now → olds self.now k < (automaton table.now).states }
         ensures { RowsOf (automaton table.now) self.now result }
     {
         let blank = Row {

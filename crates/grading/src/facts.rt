@@ -12,7 +12,7 @@ use crate::spread::spread;
 use base::table::Table;
 
 // A ghost field must be a proposition, so what holds by several words is truncated. That a state is one of the table's is
-// asked of each call, since no type can name the table's count.
+// asked of each call: one that carries its table, as in `StatePair`, would be made from a byte at each loop and look-up.
 /// The pairs of a table's states that differ, that meet, of which the first reaches the second, and that meet in the component
 /// of the first.
 #[derive(Clone, Copy)]

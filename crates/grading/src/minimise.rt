@@ -24,6 +24,6 @@ pub fn minimise(table: &Table) -> Table
     }
     match Table::new(table.labels(), draft.count(), 0, draft.rows(table)) {
         Ok(minimal) => minimal,
-        Err(_) => unreachable(),
+        Err(_) => unreachable!(),
     }
 }

@@ -4,6 +4,7 @@ ghost use Rattle.base.specs.Tables.{automaton};
 
 use base::table::Table;
 
+// Base has the same two for its own crate alone, since a public call has no `requires`.
 /// Where the label leads from the state.
 pub fn step(table: &Table, state: u8, label: u8) -> u8
     requires { (state < (automaton table.now).states) × (label < (automaton table.now).labels) }

@@ -3,7 +3,7 @@ ghost use Rattle.std.specs.Prelude.{◌≡◌, ℕ, ◌<◌, ◌≤◌, ◌⊎�
 ghost use Rattle.std.specs.Iterator.{at_most};
 ghost use Rattle.grading.specs.StateSets.{In, empty, None, Any, Tells, Sifts, Takes};
 
-// That a state is below 32 is asked of each call: it is a byte, and what bounds it is the count of the caller's table.
+// That a state is below 32 is asked of each call: one with its table or a proof would be made from a byte at each loop and look-up.
 /// Some of the states below 32: a bit for each.
 #[derive(Clone, Copy)]
 pub struct StateSet {
