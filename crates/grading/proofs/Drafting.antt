@@ -59,10 +59,10 @@ module _ (t : Table) (marks : Pairs) (agrees : Agrees t.states (Differ (automato
     had k =
         let counts : (count e) ≡ (count d) = ap count k.same in
         let same : (j : ℕ) → olds e j ≡ olds d j = λ j. ap (λ y. olds y j) k.same in
-        let unlike : ¬ Differ A (olds d r) x = λ y. k.alike ((agrees (olds d r) x).1 (h.below r k.below, x_below, y)) in
+        let unlike : ¬ Differ A (olds d r) x = λ y. k.alike.1 ((agrees (olds d r) x).1 (h.below r k.alike.0, x_below, y)) in
         let like : Equivalent A (A.step (olds d i) a) (olds e r) = λ w word. ap (λ y. A.yes (run A y w)) (sym is) ∙ sym (not_differ A (olds d r) x unlike w word) ∙ ap (λ y. A.yes (run A y w)) (sym (same r)) in (
           building_more A t.sized.1 (olds d) (olds e) (count d) (count e) (target d) (target new) i a r h row label
-              (omega (arith, counts)) (λ j _. same j) (omega (arith, counts, k.below)) (omega (arith, k.below)) like
+              (omega (arith, counts)) (λ j _. same j) (omega (arith, counts, k.alike.0)) (omega (arith, k.alike.0)) like
               (λ j l. subst (λ y. y < t.states) (sym (same j)) (h.below j (omega (arith, counts))))
               (λ j q l g. subst (λ y. Differ A y (olds e q)) (sym (same j)) (subst (Differ A (olds d j)) (sym (same q)) (h.apart j q l (omega (arith, counts)))))
               (λ v l g. absurd (omega (arith, counts)))

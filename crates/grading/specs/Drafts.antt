@@ -25,23 +25,30 @@ target d p a = slice_index (slice_index_or d.targets p []) a
 abbrev pub RowsOf : Automaton → Draft → List Row → Type 0
 RowsOf A d rows = (k : ℕ) → k < count d → ((row rows k).targets ≡ slice_index_or d.targets k []) × ((row rows k).accepts ≡ A.yes (olds d k))
 
+-- the states of all numbers differ from t
+abbrev pub AllDiffer : Pairs → Draft → ℕ → Type 0
+AllDiffer differ d t = (j : ℕ) → j < count d → Has differ (olds d j) t
+
+-- r is a number for a state like t
+abbrev pub Alike : Pairs → Draft → ℕ → ℕ → Type 0
+Alike differ d t r = (r < count d) × (¬ Has differ (olds d r) t)
+
 -- an old state t finds its number, or has room for a new one
 pub record Free (differ : Pairs) (d : Draft) (t : ℕ) : Type 0 where
   pub below : (j : ℕ) → j < count d → olds d j < 32
-  pub room : ((j : ℕ) → j < count d → Has differ (olds d j) t) → count d < 32
+  pub room : AllDiffer differ d t → count d < 32
 
 -- r is a number for a state like t, and the draft stays
 pub record Had (differ : Pairs) (d : Draft) (t r : ℕ) (e : Draft) : Type 0 where
   pub same : e ≡ d
-  pub below : r < count d
-  pub alike : ¬ Has differ (olds d r) t
+  pub alike : Alike differ d t r
 
 -- r is a new number, for t itself
 pub record Added (differ : Pairs) (d : Draft) (t r : ℕ) (e : Draft) : Type 0 where
   pub old : items e.old ≡ items d.old ++ t ∷ []
   pub targets : e.targets ≡ d.targets
   pub last : r ≡ count d
-  pub fresh : (j : ℕ) → j < count d → Has differ (olds d j) t
+  pub fresh : AllDiffer differ d t
 
 -- what asking for the number of t does
 abbrev pub Named : Pairs → Draft → ℕ → ℕ → Draft → Type 0

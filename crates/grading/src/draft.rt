@@ -1,8 +1,8 @@
 //! A table under construction, its states numbered as they are met.
-ghost use Rattle.std.specs.Prelude.{◌≡◌, ℕ, ◌+◌, ◌*◌, ◌<◌, ◌≤◌, [], ◌∷◌};
+ghost use Rattle.std.specs.Prelude.{◌≡◌, ℕ, ◌+◌, ◌*◌, ◌<◌, ◌≤◌, [], ◌∷◌, MatchOption};
 ghost use Rattle.text.specs.Lists.{items};
 ghost use Rattle.base.specs.Tables.{automaton};
-ghost use Rattle.grading.specs.Drafts.{olds, count, Free, Named, Drafted, RowsOf};
+ghost use Rattle.grading.specs.Drafts.{olds, count, Free, AllDiffer, Alike, Named, Drafted, RowsOf};
 
 use crate::differing::Differing;
 use crate::reading::{says_yes, step};
@@ -10,6 +10,7 @@ use crate::tabulate::tabulate;
 use base::table::{Row, Table};
 use text::list::ArrayList;
 
+// Two arrays: a number is given out before its targets are known, and an `ArrayList` lends no item to be written later.
 /// For each number the old state that it stands for, and its targets.
 #[derive(Clone, Copy)]
 pub struct Draft {
@@ -45,17 +46,23 @@ impl Draft {
         self.old.as_slice()[number as usize]
     }
 
+    // The number of an old state like this one.
+    fn find(&self, differ: &Differing, state: u8) -> Option<u8>
+        requires { (state < 32) × (((j : ℕ) → j < count self.now → olds self.now j < 32)) }
+        ensures { MatchOption result (AllDiffer differ.now.pairs self.now state) (Alike differ.now.pairs self.now state) }
+    {
+        (0..self.count()).find(|&number| !differ.pairs.has(self.state(number), state))
+    }
+
     // The number of the old state, or of one like it; a new number where there is none.
     fn name(&mut self, differ: &Differing, state: u8) -> u8
         requires { (state < 32) × (Free differ.now.pairs self.now state) }
         ensures { Named differ.now.pairs self.entry.now state result self.exit.now }
     {
-        let last = self.count();
-        for number in 0..last {
-            if !differ.pairs.has(self.state(number), state) {
-                return number;
-            }
+        if let Some(number) = self.find(differ, state) {
+            return number;
         }
+        let last = self.count();
         let _ = self.old.push(state);
         last
     }
