@@ -31,7 +31,7 @@ impl Facts<'_> {
     pub fn components(&self) -> u8
         ensures { Components (automaton self.now.table.now) result }
     {
-        // Counted by hand: `count` gives a `usize`, to be cast back to a byte.
+        // Counted by hand: tried `filter(..).count() as u8`, and the proof did not close.
         let mut count = 0;
         for state in 0..self.table.states() {
             if self.is_lowest(state) {

@@ -9,8 +9,8 @@ pub fn tabulate<T: Copy, const N: usize, F: Fn(u8) -> T>(count: u8, blank: T, ma
     ensures { Tabulates (F.post make) count result }
 {
     let mut all = [blank; N];
-    for k in 0..count {
-        all[k as usize] = make(k);
+    for (k, item) in all[..count as usize].iter_mut().enumerate() {
+        *item = make(k as u8);
     }
     all
 }

@@ -33,7 +33,7 @@ impl Distances {
     fn best_label(&self, pair: StatePair) -> u8
         ensures { Best (automaton pair.entry.table.now) self.now pair.entry.first pair.entry.second result }
     {
-        // `min_by_key` would give an option, though a table always has a label.
+        // By a loop: tried `min_by_key`, and the proof did not close.
         let mut best = 0;
         for label in 1..pair.table.labels() {
             if self.after(pair, label) < self.after(pair, best) {
