@@ -42,6 +42,10 @@ module _ (A : Automaton) (narrow : A.labels ≤ 16) where
           λ (l, e). (h b y q k).1 (omega arith, e),
         )
 
+  -- pairs that are the same for each label of the table
+  pub indexed_as : (m k : List Pairs) (n : ℕ) → ((a : ℕ) → a < A.labels → entering k a ≡ entering m a) → Indexed A m n → Indexed A k n
+  indexed_as m k n same h a x p l = subst (λ s. Has s x p ↔ ((16 * p + a < n) × (A.step p a ≡ x))) (sym (same a l)) (h a x p l)
+
   -- the labels of one state are all passed
   pub indexed_row : (m : List Pairs) (p n : ℕ) → n ≡ A.labels → Indexed A m (16 * p + n) → Indexed A m (16 * (p + 1))
   indexed_row m p n e h a x q l = (λ i. let c = (h a x q l).0 i in (omega (arith, c.0), c.1), λ (k, f). (h a x q l).1 (omega arith, f))

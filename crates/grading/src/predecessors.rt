@@ -41,8 +41,8 @@ fn add(entering: &mut [Pairs; 16], table: &Table, state: u8)
     requires { (state < (automaton table.now).states) × (Indexed (automaton table.now) entering.old (16 * state)) }
     ensures { Indexed (automaton table.now) entering.new (16 * (state + 1)) }
 {
-    // By index: the label is stepped by, too.
-    for label in 0..table.labels() {
-        entering[label as usize].add(step(table, state, label), state);
+    let count = table.labels() as usize;
+    for (label, pairs) in entering[..count].iter_mut().enumerate() {
+        pairs.add(step(table, state, label as u8), state);
     }
 }

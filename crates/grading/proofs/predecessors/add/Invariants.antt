@@ -5,4 +5,4 @@ use Rattle.grading.specs.Preceding.{Indexed}
 use Rattle.grading.proofs.predecessors.add.Given as goal
 
 abbrev pub invariant-loop-label : goal.invariant-loop-label
-invariant-loop-label l = Indexed (automaton l.table) l.entering (16 * l.state + l.label) × (length l.entering ≡ 16)
+invariant-loop-label l = Indexed (automaton l.table) l.pairs-items (16 * l.state + l.label) × (length l.pairs-items ≡ l.table.labels)
