@@ -10,7 +10,7 @@ use crate::states::StateSet;
 use crate::tabulate::tabulate;
 use base::table::Table;
 
-// The distance of a pair that no labels lead to a wanted one.
+// The distance of a pair that no labels lead to a wanted one; no `Option`, whose order has `None` below each distance.
 const NONE: u16 = 65_535;
 
 /// For each pair of states the least number of labels that lead both to a wanted pair, or `NONE`; and the most of these numbers.
@@ -60,6 +60,7 @@ impl Distances {
         (0..pair.table.labels()).any(|label| self.after(pair, label) == steps)
     }
 
+    // That the steps are below 1,024 is asked of each, as a type for it would hold one number and be opened at each use.
     // Gives the pair the next distance, where it has none and a label leads it to a pair at this one.
     fn measure(&mut self, pair: StatePair, steps: u16)
         requires { steps < 1024 }

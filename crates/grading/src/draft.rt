@@ -72,7 +72,7 @@ impl Draft {
         requires { (number < count self.now) × (Drafted (automaton differ.now.table.now) self.now (16 * number)) }
         ensures { Drafted (automaton differ.now.table.now) self.exit.now (16 * (number + 1)) }
     {
-        // By index: naming a target changes the draft whose row is written.
+        // By index, in the draft itself: of a local row, each fact of the loop would speak of the draft with that row put in.
         for label in 0..differ.table.labels() {
             let target = step(differ.table, self.state(number), label);
             let name = self.name(differ, target);
