@@ -44,6 +44,23 @@ module _ (A : Automaton) where
       origin : (v : ℕ) → (x : Origin A T (16 * i + A.labels) v) × (x.row < v) → (x : Origin A T (16 * (i + 1)) v) × (x.row < v)
       origin v (x, l) = (record { row = x.row; label = x.label; below = x.below; before = omega (arith, x.before, narrow); is = x.is }, l)
 
+  -- other targets that are the same at the places before n
+  pub building_as : (o : ℕ → ℕ) (m : ℕ) (T T' : ℕ → ℕ → ℕ) (n : ℕ) → ((r b : ℕ) → b < A.labels → 16 * r + b < n → T' r b ≡ T r b) → Building A o m T n → Building A o m T' n
+  building_as o m T T' n same h = record {
+    first = h.first;
+    some = h.some;
+    within = h.within;
+    below = h.below;
+    apart = h.apart;
+    inside = λ r b l k. subst (λ x. x < m) (sym (same r b l k)) (h.inside r b l k);
+    follows = λ r b l k. subst (λ x. Equivalent A (A.step (o r) b) (o x)) (sym (same r b l k)) (h.follows r b l k);
+    met = λ r b v l k z j. origin_as (16 * r + b) v (omega arith) (h.met r b v l k z (subst (λ x. v < x) (same r b l k) j));
+    origin = λ v z l. let y = h.origin v z l in (origin_as n v (omega arith) y.0, y.1);
+  }
+    where
+      origin_as : (k v : ℕ) → k ≤ n → Origin A T k v → Origin A T' k v
+      origin_as k v l y = record { row = y.row; label = y.label; below = y.below; before = y.before; is = same y.row y.label y.below (omega (arith, y.before)) ∙ y.is }
+
   -- there is a number left for a state that differs from all that are numbered
   pub room : (o : ℕ → ℕ) (m : ℕ) (T : ℕ → ℕ → ℕ) (n t : ℕ) → Building A o m T n → A.states ≤ 32 → t < A.states → ((j : ℕ) → j < m → Differ A (o j) t) → m < 32
   room o m T n t b small h fresh = cases (dec_lt m 32)

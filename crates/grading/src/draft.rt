@@ -72,12 +72,13 @@ impl Draft {
         requires { (number < count self.now) × (Drafted (automaton differ.now.table.now) self.now (16 * number)) }
         ensures { Drafted (automaton differ.now.table.now) self.exit.now (16 * (number + 1)) }
     {
-        // By index, in the draft itself: of a local row, each fact of the loop would speak of the draft with that row put in.
-        for label in 0..differ.table.labels() {
-            let target = step(differ.table, self.state(number), label);
-            let name = self.name(differ, target);
-            self.targets[number as usize][label as usize] = name;
+        let state = self.state(number);
+        let count = differ.table.labels() as usize;
+        let mut row = [0; 16];
+        for (label, target) in row[..count].iter_mut().enumerate() {
+            *target = self.name(differ, step(differ.table, state, label as u8));
         }
+        self.targets[number as usize] = row;
     }
 
     /// The rows of the numbers: their targets, and yes or no as their old states have it.
