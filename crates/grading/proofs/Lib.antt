@@ -20,6 +20,7 @@ pub mod Finishing
 pub mod Drafting
 pub mod Making
 pub mod Counting
+pub mod Filtering
 pub mod Retracing
 pub mod Settling
 pub mod Noted

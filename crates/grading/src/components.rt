@@ -31,14 +31,14 @@ impl Facts<'_> {
     pub fn components(&self) -> u8
         ensures { Components (automaton self.now.table.now) result }
     {
-        // Counted by hand: tried `filter(..).count() as u8`, and the proof did not close.
-        let mut count = 0;
-        for state in 0..self.table.states() {
-            if self.is_lowest(state) {
-                count += 1;
-            }
-        }
-        count
+        (0..self.table.states())
+            .filter(
+                |state: &u8| -> bool
+                    requires { state.now < (automaton self.now.table.now).states }
+                    ensures { Decides result (Lowest (automaton self.entry.now.table.now) state.now) }
+                { self.is_lowest(*state) },
+            )
+            .count() as u8
     }
 
     /// For each state the number of its component: the lowest state in it.
