@@ -1,11 +1,9 @@
 //! The book of a run: what it ought to answer, kept from the tags alone.
-use crate::answers::Answer;
-use crate::document::Reading;
+use crate::answers::{Answer, Cause};
+use crate::document::{Reading, Tag};
+use crate::rules::Rule;
 use crate::wanted::Wanted;
-use automata::tag::Tag;
-use base::run::{Cause, Drained, Opened, Totals};
 use std::alloc::{AllocError, Global};
-use text::refusal::Refusal;
 
 /// The most levels that a limit can ask for; not the constant of the library, which is held to it.
 pub const MOST_LEVELS: u32 = 65_535;
@@ -35,8 +33,10 @@ pub struct Book<'a> {
     wanted: &'a Wanted,
     terms: Terms,
     path: Vec<u8>,
-    /// What the run amounts to so far.
-    pub totals: Totals,
+    openings: u32,
+    picks: u32,
+    // whether the root was closed
+    whole: bool,
     /// Whether each closing that was taken bore its element's label.
     pub nested: bool,
 }
@@ -49,54 +49,50 @@ impl<'a> Book<'a> {
             wanted,
             terms,
             path: Vec::new(heap),
-            totals: Totals {
-                openings: 0,
-                picks: 0,
-                whole: false,
-            },
+            openings: 0,
+            picks: 0,
+            whole: false,
             nested: true,
         }
     }
 
     // Refuses the tag by the first rule that it breaks.
-    fn check(&self, tag: Tag) -> Result<(), Refusal> {
+    fn check(&self, tag: Tag) -> Result<(), Rule> {
         let limit = self.terms.limit;
         if limit < 1 || limit > MOST_LEVELS || limit > self.terms.carry {
-            return Err(Refusal::Limit);
+            return Err(Rule::Limit);
         }
-        // a pattern and not the library's method, by which the run judges
-        let (Tag::Open(label) | Tag::Close(label)) = tag;
-        if label >= self.terms.labels {
-            return Err(Refusal::Label);
+        if tag.label() >= self.terms.labels {
+            return Err(Rule::Label);
         }
         match tag {
-            Tag::Open(_) if self.totals.whole => Err(Refusal::AfterRoot),
-            Tag::Open(_) if self.path.len() >= limit as usize => Err(Refusal::TooDeep),
-            Tag::Open(_) if self.totals.openings >= 1_000_000 => Err(Refusal::TooMany),
-            Tag::Close(_) if self.path.is_empty() => Err(Refusal::NothingOpen),
+            Tag::Open(_) if self.whole => Err(Rule::AfterRoot),
+            Tag::Open(_) if self.path.len() >= limit as usize => Err(Rule::TooDeep),
+            Tag::Open(_) if self.openings >= 1_000_000 => Err(Rule::TooMany),
+            Tag::Close(_) if self.path.is_empty() => Err(Rule::NothingOpen),
             _ => Ok(()),
         }
     }
 
     /// Takes the tag, or refuses it and stays as it is.
     pub fn take(&mut self, tag: Tag) -> Result<Answer, AllocError> {
-        if let Err(refusal) = self.check(tag) {
-            return Ok(Answer::Refused(refusal));
+        if let Err(rule) = self.check(tag) {
+            return Ok(Answer::from(rule));
         }
         match tag {
-            Tag::Open(label) => Ok(Answer::Opened(self.opened(label)?)),
+            Tag::Open(label) => self.opened(label),
             Tag::Close(label) => Ok(self.closed(label)),
         }
     }
 
     // An element more is open, and picked where its path is wanted.
-    fn opened(&mut self, label: u8) -> Result<Opened, AllocError> {
+    fn opened(&mut self, label: u8) -> Result<Answer, AllocError> {
         self.path.push(label)?;
-        let element = self.totals.openings;
+        let element = self.openings;
         let picked = self.wanted.wants(self.heap, self.path.as_slice())?;
-        self.totals.openings = element.saturating_add(1);
-        self.totals.picks = self.totals.picks.saturating_add(u32::from(picked));
-        Ok(Opened { element, picked })
+        self.openings = element.saturating_add(1);
+        self.picks = self.picks.saturating_add(u32::from(picked));
+        Ok(Answer::Opened { element, picked })
     }
 
     // The last open element is closed.
@@ -104,7 +100,7 @@ impl<'a> Book<'a> {
         if self.path.pop() != Some(label) {
             self.nested = false;
         }
-        self.totals.whole = self.path.is_empty();
+        self.whole = self.path.is_empty();
         let left = u32::try_from(self.path.len()).unwrap_or(u32::MAX);
         Answer::Closed { left }
     }
@@ -114,34 +110,38 @@ impl<'a> Book<'a> {
         &mut self,
         reading: Reading<'_>,
         picked: &mut Vec<u32>,
-    ) -> Result<Drained, AllocError> {
-        let before = self.totals.picks;
+    ) -> Result<Answer, AllocError> {
+        let before = self.picks;
         let mut offered = 0;
-        let mut end = reading.end.map_err(Cause::Fault);
-        for (number, tag) in (1u32..).zip(reading.tags) {
-            offered = number;
+        let mut end = reading.end;
+        for (count, tag) in (1u32..).zip(reading.tags) {
+            offered = count;
             match self.take(*tag)? {
-                Answer::Opened(
-                    Opened {
-                        element,
-                        picked: true,
-                    },
-                ) => picked.push(element)?,
-                Answer::Refused(refusal) => {
-                    end = Err(Cause::Refused {
-                        refusal,
-                        tag: number,
-                    });
+                Answer::Opened {
+                    element,
+                    picked: true,
+                } => picked.push(element)?,
+                Answer::Refused(number) => {
+                    end = Err(Cause::Refused { number, tag: count });
                     break;
                 }
                 _ => {}
             }
         }
-        let picks = self.totals.picks.saturating_sub(before);
-        Ok(Drained {
+        let picks = self.picks.saturating_sub(before);
+        Ok(Answer::Drained {
             offered,
             picks,
             end,
         })
+    }
+
+    /// What the run amounts to so far.
+    pub fn totals(&self) -> Answer {
+        Answer::Ended {
+            openings: self.openings,
+            picks: self.picks,
+            whole: self.whole,
+        }
     }
 }

@@ -1,13 +1,10 @@
 //! Holds the library's answers to the expected ones, and shows where they differ.
-use crate::answers::Answer;
+use crate::answers::{Answer, Grade};
 use crate::book::Terms;
 use crate::document::Document;
-use crate::rules::number;
-use crate::tally::Tally;
+use crate::tally::{Chosen, Tally};
 use crate::wanted::Wanted;
 use base::table::Table;
-use choosing::kind::SelectorKind;
-use grading::grade::Grade;
 use paths::path::Path;
 use std::fmt::Display;
 use text::labels::Labels;
@@ -32,7 +29,7 @@ pub struct Query<'a> {
 pub struct Case<'a> {
     pub query: Query<'a>,
     pub document: &'a Document,
-    pub selector: SelectorKind,
+    pub selector: Chosen,
     pub terms: Terms,
     pub places: usize,
     pub way: &'static str,
@@ -108,22 +105,17 @@ impl Checker {
         self.made(text, made)
     }
 
-    // Prints the answers, and the number of the rule where one refuses.
+    // Prints the answers.
     fn show(&self, expected: Answer, got: Answer) -> anyhow::Result<()> {
         let rt = &self.rt;
-        println!(rt;
-            "expected\t{expected:?}\t{:?}",
-            expected.refusal().map(number)
-        )?;
-        println!(rt; "got\t{got:?}\t{:?}", got.refusal().map(u8::from))?;
+        println!(rt; "expected\t{expected:?}\ngot\t{got:?}")?;
         Ok(())
     }
 
-    // Whether there is nothing to show; a difference is counted. A refusal is also held by the number that the library reports.
+    // Whether there is nothing to show; a difference is counted.
     fn agrees(&mut self, expected: Answer, got: Answer) -> bool {
         self.tally.count_answer(expected);
-        let reported = got.refusal().map(u8::from);
-        if expected == got && expected.refusal().map(number) == reported {
+        if expected == got {
             return true;
         }
         self.tally.differences = self.tally.differences.saturating_add(1);

@@ -2,14 +2,13 @@
 use crate::answers::Answer;
 use crate::book::{Book, Terms};
 use crate::checker::{Case, Checker};
-use crate::document::Reading;
+use crate::document::{Reading, Tag};
+use crate::tally::Chosen;
 use crate::ways::{Bytes, Calls, Halves, Lines, Way};
-use automata::tag::Tag;
 use base::packed::PackedSource;
 use base::run::{Run, Totals};
 use base::selector::Selector;
 use base::source::TagSource;
-use choosing::kind::SelectorKind;
 use grading::begun::{Begun, begin};
 use text::refusal::Refusal;
 
@@ -63,7 +62,7 @@ impl<'a> Trial<'a> {
         let selector = self.hold_run(Lines, run)?;
         let expected = Answer::Graded(self.case.query.grade);
         self.checker
-            .hold(self.case, expected, Answer::Graded(graded.grade))?;
+            .hold(self.case, expected, Answer::Graded(graded.grade.into()))?;
         Ok(selector)
     }
 
@@ -108,7 +107,7 @@ impl<'a> Trial<'a> {
         let expected = self.book.drain(reading, &mut picked)?;
         let mut list = vec![in heap; BLANK; self.case.places]?;
         let got = run.drain(source, list.as_mut_slice());
-        self.hold(expected.into(), got.into())?;
+        self.hold(expected, got.into())?;
         if self.follows() {
             self.hold_list(picked.as_slice(), list.as_slice())?;
         }
@@ -129,13 +128,14 @@ impl<'a> Trial<'a> {
     // Holds the totals to the book's.
     fn end(&mut self, totals: Totals) -> anyhow::Result<()> {
         self.checker.tally.count_run(self.case.selector);
-        self.hold(self.book.totals.into(), totals.into())
+        let expected = self.book.totals();
+        self.hold(expected, totals.into())
     }
 
     // Whether the selector still picks what the book does: after a closing with another element's label only the stack
     // selector is sure to.
     fn follows(&self) -> bool {
-        self.book.nested || self.case.selector == SelectorKind::Stack
+        self.book.nested || self.case.selector == Chosen::Stack
     }
 
     // Holds an answer to the book's, in what it says of picks only where the selector still follows.

@@ -1,7 +1,6 @@
 //! What can be wrong with a document.
-use crate::document::{Flaw, FlawedLine};
+use crate::document::{Flaw, FlawedLine, Tag};
 use crate::random::Random;
-use automata::tag::Tag;
 use std::alloc::AllocFailed;
 
 /// Wrong tags, or a wrong line.

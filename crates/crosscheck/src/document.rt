@@ -1,9 +1,24 @@
 //! Documents: lists of tags, what is wrong with one of their lines, and their two texts.
+use crate::answers::Cause;
+use crate::rules::Rule;
 use crate::writing::{packed, tag_lines};
-use automata::tag::Tag;
-use base::source::Fault;
 use std::alloc::{AllocError, Global};
-use text::refusal::Refusal;
+
+/// An element opens or closes, by its label.
+#[derive(Clone, Copy)]
+pub enum Tag {
+    Open(u8),
+    Close(u8),
+}
+
+impl Tag {
+    /// The label of the element.
+    pub fn label(self) -> u8 {
+        match self {
+            Tag::Open(label) | Tag::Close(label) => label,
+        }
+    }
+}
 
 /// How a line is not what it should be.
 #[derive(Clone, Copy)]
@@ -18,11 +33,11 @@ pub enum Flaw {
     UnknownName,
 }
 
-impl From<Flaw> for Refusal {
-    fn from(flaw: Flaw) -> Refusal {
+impl From<Flaw> for Rule {
+    fn from(flaw: Flaw) -> Rule {
         match flaw {
-            Flaw::UnknownName => Refusal::UnknownName,
-            _ => Refusal::TagLine,
+            Flaw::UnknownName => Rule::UnknownName,
+            _ => Rule::TagLine,
         }
     }
 }
@@ -38,7 +53,7 @@ pub struct FlawedLine {
 #[derive(Clone, Copy)]
 pub struct Reading<'a> {
     pub tags: &'a [Tag],
-    pub end: Result<(), Fault>,
+    pub end: Result<(), Cause>,
 }
 
 /// Tags over so many labels. As lines, one of them may be flawed.
@@ -83,11 +98,11 @@ impl Document {
         let tags = self.tags.as_slice();
         for (at, tag) in tags.iter().enumerate() {
             if let Some(flaw) = self.flaw_at(at, *tag) {
-                let refusal = flaw.into();
+                let number = Rule::from(flaw).into();
                 let line = u32::try_from(at).unwrap_or(u32::MAX).saturating_add(1);
                 return Reading {
                     tags: &tags[..at],
-                    end: Err(Fault { refusal, line }),
+                    end: Err(Cause::Fault { number, line }),
                 };
             }
         }
@@ -96,10 +111,9 @@ impl Document {
 
     // What is wrong with the line of the tag at this place.
     fn flaw_at(&self, at: usize, tag: Tag) -> Option<Flaw> {
-        let (Tag::Open(label) | Tag::Close(label)) = tag;
         match self.flawed {
             Some(flawed) if flawed.at == at => Some(flawed.flaw),
-            _ if label >= self.labels => Some(Flaw::UnknownName),
+            _ if tag.label() >= self.labels => Some(Flaw::UnknownName),
             _ => None,
         }
     }

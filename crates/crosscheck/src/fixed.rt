@@ -1,19 +1,18 @@
 //! Fixed cases: limits that fit or not, the deepest run, and a run of a million openings.
-use crate::answers::Answer;
+use crate::answers::{Answer, Cause, Grade};
 use crate::book::{MOST_LEVELS, Terms};
 use crate::checker::{Case, Checker, Query};
 use crate::compare::Trial;
-use crate::document::Document;
-use crate::steps::child;
+use crate::document::{Document, Tag};
+use crate::rules::Rule;
+use crate::steps::Step;
+use crate::tally::Chosen;
 use crate::wanted::Wanted;
 use crate::ways::Million;
-use automata::tag::Tag;
 use base::packed::PackedSource;
-use base::run::{Cause, Drained, Opened, Run, Totals};
+use base::run::Run;
 use base::selector::Selector;
 use base::stack_selector::StackSelector;
-use choosing::kind::SelectorKind;
-use grading::grade::Grade;
 use grading::registerless::RegisterlessSelector;
 use grading::stackless::StacklessSelector;
 use std::alloc::{AllocError, Global};
@@ -38,7 +37,7 @@ const FREE_LIMITS: [(u32, bool); 4] = [(0, false), (1, true), (65_535, true), (6
 // The terms of a run of `//a`, and whether it takes tags.
 #[derive(Clone, Copy)]
 struct Limits {
-    selector: SelectorKind,
+    selector: Chosen,
     terms: Terms,
     fits: bool,
 }
@@ -53,7 +52,7 @@ impl Checker {
         for (levels, limit, fits) in STACK_LIMITS {
             let carry = levels.min(MOST_LEVELS);
             let limits = Limits {
-                selector: SelectorKind::Stack,
+                selector: Chosen::Stack,
                 terms: Terms {
                     labels,
                     carry,
@@ -77,9 +76,9 @@ impl Checker {
                 fits,
             };
             let made = RegisterlessSelector::new(&table);
-            self.hold_limit(limits(SelectorKind::Registerless), made)?;
+            self.hold_limit(limits(Chosen::Registerless), made)?;
             let made = StacklessSelector::new(&table);
-            self.hold_limit(limits(SelectorKind::Stackless), made)?;
+            self.hold_limit(limits(Chosen::Stackless), made)?;
         }
         Ok(())
     }
@@ -104,14 +103,14 @@ impl Checker {
         let root = Answer::from(run.open(0));
         let (_, selector) = run.end();
         self.tally.count_run(kind);
-        let opened = Opened {
+        let opened = Answer::Opened {
             element: 0,
             picked: true,
         };
         let (of_unknown, of_root) = if fits {
-            (Answer::Refused(Refusal::Label), Answer::Opened(opened))
+            (Answer::from(Rule::Label), opened)
         } else {
-            let refused = Answer::Refused(Refusal::Limit);
+            let refused = Answer::from(Rule::Limit);
             (refused, refused)
         };
         self.hold_fixed("an unknown label", of_unknown, unknown)?;
@@ -126,7 +125,7 @@ impl Checker {
     // Opens one element more than the highest limit has levels: each is picked, and the last is refused.
     fn hold_deepest<S: Selector + Drop>(
         &mut self,
-        kind: SelectorKind,
+        kind: Chosen,
         selector: S,
     ) -> anyhow::Result<()> {
         let bytes = vec![in self.rt.alloc(); 0_u8; 65_536]?;
@@ -137,15 +136,15 @@ impl Checker {
         let (totals, selector) = run.end();
         drop(selector);
         self.tally.count_run(kind);
-        let expected = Drained {
+        let expected = Answer::Drained {
             offered: 65_536,
             picks: 65_535,
             end: Err(Cause::Refused {
-                refusal: Refusal::TooDeep,
+                number: Rule::TooDeep.into(),
                 tag: 65_536,
             }),
         };
-        self.hold_fixed("the deepest drain", expected.into(), drained.into())?;
+        self.hold_fixed("the deepest drain", expected, drained.into())?;
         let [_, _, number] = list;
         let expected = Answer::Listed {
             place: 2,
@@ -156,12 +155,12 @@ impl Checker {
             expected,
             Answer::Listed { place: 2, number },
         )?;
-        let expected = Totals {
+        let expected = Answer::Ended {
             openings: 65_535,
             picks: 65_535,
             whole: false,
         };
-        self.hold_fixed("the deepest run", expected.into(), totals.into())
+        self.hold_fixed("the deepest run", expected, totals.into())
     }
 
     /// Holds a run with an opening more than there may be: the root, and then drains of as many children as fit.
@@ -172,7 +171,7 @@ impl Checker {
         let heap = self.rt.alloc();
         let document = children(heap, names.count())?;
         let query = Query {
-            wanted: &Wanted::Path([child(0), child(1)].to_vec(heap)?),
+            wanted: &Wanted::Path([Step::child(0), Step::child(1)].to_vec(heap)?),
             text: "/a/b",
             names,
             table: &table,
@@ -182,7 +181,7 @@ impl Checker {
         let case = Case {
             query,
             document: &document,
-            selector: SelectorKind::Stack,
+            selector: Chosen::Stack,
             terms: Terms {
                 labels: names.count(),
                 carry: 2,

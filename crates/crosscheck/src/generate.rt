@@ -1,9 +1,8 @@
 //! Generated paths and documents.
 use crate::damage::{Damage, Spot};
-use crate::document::Document;
+use crate::document::{Document, Tag};
 use crate::random::Random;
-use automata::tag::Tag;
-use paths::path::{Step, Test};
+use crate::steps::{Step, Test};
 use std::alloc::{AllocError, Global};
 
 /// How a document grows: so many turns, each of which opens an element with this chance in a hundred where fewer than `most`

@@ -19,13 +19,12 @@ mod wanted;
 mod ways;
 mod writing;
 
-use crate::steps::{child, descendant};
+use crate::answers::Grade;
+use crate::steps::Step;
 use crate::survey::Survey;
 use crate::writing::label_line;
 use anyhow::ensure;
 use formats::label_line::read_labels;
-use grading::grade::Grade;
-use paths::path::Step;
 use std::alloc::Global;
 use text::labels::Labels;
 
@@ -69,9 +68,9 @@ fn names(heap: Global, labels: u8) -> anyhow::Result<Labels> {
 // Over the labels a, b and c: `/a//b`, `/a/b`, `//a//b` and `//a/b`, with their grades.
 fn classics() -> [([Step; 2], Grade); 4] {
     [
-        ([child(0), descendant(1)], Grade::Registerless),
-        ([child(0), child(1)], Grade::Stackless),
-        ([descendant(0), descendant(1)], Grade::Stackless),
-        ([descendant(0), child(1)], Grade::Neither),
+        ([Step::child(0), Step::descendant(1)], Grade::Registerless),
+        ([Step::child(0), Step::child(1)], Grade::Stackless),
+        ([Step::descendant(0), Step::descendant(1)], Grade::Stackless),
+        ([Step::descendant(0), Step::child(1)], Grade::Neither),
     ]
 }

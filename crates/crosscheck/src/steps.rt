@@ -1,20 +1,45 @@
 //! Paths by their meaning: which lists of labels a list of steps means.
-use paths::path::{Step, Test};
 use std::alloc::{AllocError, Global};
 
-/// `/t` for a label.
-pub fn child(label: u8) -> Step {
-    Step {
-        descend: false,
-        test: Test::Label(label),
+/// Which labels a step fits: one, or every label.
+#[derive(Clone, Copy)]
+pub enum Test {
+    Label(u8),
+    Any,
+}
+
+impl Test {
+    // Whether the label fits.
+    fn fits(self, label: u8) -> bool {
+        match self {
+            Test::Label(wanted) => label == wanted,
+            Test::Any => true,
+        }
     }
 }
 
-/// `//t` for a label.
-pub fn descendant(label: u8) -> Step {
-    Step {
-        descend: true,
-        test: Test::Label(label),
+/// One label that fits the test; where it descends, any labels before it.
+#[derive(Clone, Copy)]
+pub struct Step {
+    pub descend: bool,
+    pub test: Test,
+}
+
+impl Step {
+    /// `/t` for a label.
+    pub fn child(label: u8) -> Step {
+        Step {
+            descend: false,
+            test: Test::Label(label),
+        }
+    }
+
+    /// `//t` for a label.
+    pub fn descendant(label: u8) -> Step {
+        Step {
+            descend: true,
+            test: Test::Label(label),
+        }
     }
 }
 
@@ -42,15 +67,7 @@ fn longer(
     let mut begun = false;
     for (front, label) in fronts.iter().zip(labels) {
         begun = *front || (step.descend && begun);
-        next.push(begun && fits(step.test, *label))?;
+        next.push(begun && step.test.fits(*label))?;
     }
     Ok(next)
-}
-
-// Whether the label fits.
-fn fits(test: Test, label: u8) -> bool {
-    match test {
-        Test::Label(wanted) => label == wanted,
-        Test::Any => true,
-    }
 }

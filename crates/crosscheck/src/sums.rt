@@ -1,8 +1,8 @@
 //! Queries that count: the weights of the labels have a sum with a remainder. Unlike a path, such a query takes a selector
 //! from state to state and back again, so that each closing matters.
+use crate::answers::Grade;
 use crate::random::Random;
 use crate::writing::label_line;
-use grading::grade::Grade;
 use std::alloc::Global;
 use std::fmt;
 use std::fmt::Write;

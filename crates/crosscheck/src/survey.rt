@@ -1,5 +1,5 @@
 //! The survey: generated paths over generated documents, by each selector that serves them.
-use crate::answers::Answer;
+use crate::answers::{Answer, Grade};
 use crate::book::{MOST_LEVELS, Terms};
 use crate::checker::{Case, Checker, Query};
 use crate::compare::Trial;
@@ -7,18 +7,18 @@ use crate::damage::KINDS;
 use crate::document::Document;
 use crate::generate::{Generator, Shape};
 use crate::random::Random;
+use crate::rules::Rule;
+use crate::steps::Step;
 use crate::sums::{Begin, Sum};
+use crate::tally::Chosen;
 use crate::wanted::Wanted;
 use crate::writing::path_text;
 use base::stack_selector::StackSelector;
-use choosing::kind::SelectorKind;
 use formats::table_text::{TableText, read_table};
-use grading::grade::{Grade, Graded};
+use grading::grade::Graded;
 use grading::registerless::RegisterlessSelector;
 use grading::stackless::StacklessSelector;
-use paths::path::Step;
 use text::labels::Labels;
-use text::refusal::Refusal;
 
 // How many paths are generated for the documents of one survey.
 const PATHS: u32 = 10;
@@ -118,7 +118,7 @@ impl Survey {
             names: sample.names,
             table: &table,
             minimal: &graded.table,
-            grade: graded.grade,
+            grade: graded.grade.into(),
         };
         self.hold_query(query, known, sample.documents)
     }
@@ -139,7 +139,7 @@ impl Survey {
             names: &labels,
             table: &table,
             minimal: &graded.table,
-            grade: graded.grade,
+            grade: graded.grade.into(),
         };
         self.hold_query(query, sum.known_grade(), sample.documents)
     }
@@ -179,7 +179,7 @@ impl Survey {
             query.minimal
         };
         let query = Query { table, ..query };
-        let case = self.any_case(query, document, SelectorKind::Stack, levels);
+        let case = self.any_case(query, document, Chosen::Stack, levels);
         let mut bytes = vec![in self.checker.rt.alloc(); 0xee_u8; levels as usize]?;
         let selector = StackSelector::new(table, bytes.as_mut_slice());
         Trial::new(&mut self.checker, case).compare(Ok(selector), Answer::Made)
@@ -187,18 +187,18 @@ impl Survey {
 
     // The selectors that need no stack, where the grade has them.
     fn hold_others(&mut self, query: Query<'_>, document: &Document) -> anyhow::Result<()> {
-        let case = self.any_case(query, document, SelectorKind::Registerless, MOST_LEVELS);
+        let case = self.any_case(query, document, Chosen::Registerless, MOST_LEVELS);
         let expected = match query.grade {
             Grade::Registerless => Answer::Made,
-            _ => Answer::Refused(Refusal::NotRegisterless),
+            _ => Answer::from(Rule::NotRegisterless),
         };
         Trial::new(&mut self.checker, case).compare(
             RegisterlessSelector::new(query.table),
             expected,
         )?;
-        let case = self.any_case(query, document, SelectorKind::Stackless, MOST_LEVELS);
+        let case = self.any_case(query, document, Chosen::Stackless, MOST_LEVELS);
         let expected = match query.grade {
-            Grade::Neither => Answer::Refused(Refusal::NotStackless),
+            Grade::Neither => Answer::from(Rule::NotStackless),
             _ => Answer::Made,
         };
         Trial::new(&mut self.checker, case).compare(StacklessSelector::new(query.table), expected)
@@ -209,7 +209,7 @@ impl Survey {
         &mut self,
         query: Query<'a>,
         document: &'a Document,
-        selector: SelectorKind,
+        selector: Chosen,
         carry: u32,
     ) -> Case<'a> {
         let random = &mut self.random;

@@ -1,20 +1,36 @@
 //! What was compared, counted.
-use crate::answers::Answer;
-use crate::rules::number;
-use base::run::Opened;
-use choosing::kind::SelectorKind;
-use grading::grade::Grade;
+use crate::answers::{Answer, Grade};
+use std::fmt;
 
-/// Counts of documents and tags, queries by grade, runs by the selector's number, refusals by number, picks and differences.
+/// Counts of documents and tags, queries by grade, runs by selector, refusals by number, picks and differences.
 #[derive(Drop, Default)]
 pub struct Tally {
     documents: u32,
     tags: usize,
     queries: [u32; 3],
-    runs: [u32; 4],
+    runs: [u32; 3],
     refusals: [u32; 23],
     picks: u32,
     pub differences: u32,
+}
+
+/// Which selector is run.
+#[derive(Clone, Copy, PartialEq, Eq)]
+pub enum Chosen {
+    Stack,
+    Registerless,
+    Stackless,
+}
+
+// What it is called.
+impl fmt::Display for Chosen {
+    fn fmt<W: fmt::Write>(&self, f: &mut fmt::Formatter<W>) -> fmt::Result {
+        f.write_str(match self {
+            Chosen::Stack => "stack",
+            Chosen::Registerless => "registerless",
+            Chosen::Stackless => "stackless",
+        })
+    }
 }
 
 impl Tally {
@@ -30,16 +46,16 @@ impl Tally {
     }
 
     /// Counts a run of a selector.
-    pub fn count_run(&mut self, selector: SelectorKind) {
+    pub fn count_run(&mut self, selector: Chosen) {
         count(&mut self.runs, selector as usize);
     }
 
     /// Counts what an expected answer tells.
     pub fn count_answer(&mut self, answer: Answer) {
-        if let Some(refusal) = answer.refusal() {
-            count(&mut self.refusals, usize::from(number(refusal)));
+        if let Some(number) = answer.refusal() {
+            count(&mut self.refusals, usize::from(number));
         }
-        if let Answer::Listed { .. } | Answer::Opened(Opened { picked: true, .. }) = answer {
+        if let Answer::Listed { .. } | Answer::Opened { picked: true, .. } = answer {
             self.picks = self.picks.saturating_add(1);
         }
     }
@@ -53,7 +69,7 @@ impl Tally {
         println!(rt;
             "queries\tregisterless\t{registerless}\tstackless\t{stackless}\tneither\t{neither}"
         )?;
-        let [_, registerless, stackless, stack] = self.runs;
+        let [stack, registerless, stackless] = self.runs;
         println!(rt; "runs\tstack\t{stack}\tregisterless\t{registerless}\tstackless\t{stackless}")?;
         for (number, count) in self.refusals.iter().enumerate().skip(13) {
             println!(rt; "refused\t{number}\t{count}")?;

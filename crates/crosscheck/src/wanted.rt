@@ -1,7 +1,6 @@
 //! What a query wants, by its meaning.
-use crate::steps::means;
+use crate::steps::{Step, means};
 use crate::sums::Sum;
-use paths::path::Step;
 use std::alloc::{AllocError, Global};
 
 /// The lists of labels that a path means, or that have a sum.

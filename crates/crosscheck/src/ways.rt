@@ -1,8 +1,7 @@
 //! The ways to use a run of the library.
 use crate::compare::Trial;
-use crate::document::Reading;
+use crate::document::{Reading, Tag};
 use crate::writing::packed;
-use automata::tag::Tag;
 use base::lines::LineSource;
 use base::run::Run;
 use base::selector::Selector;

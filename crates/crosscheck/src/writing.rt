@@ -1,7 +1,6 @@
 //! Label lines, paths and documents as texts.
-use crate::document::{Flaw, FlawedLine};
-use automata::tag::Tag;
-use paths::path::{Step, Test};
+use crate::document::{Flaw, FlawedLine, Tag};
+use crate::steps::{Step, Test};
 use std::alloc::{AllocError, Global};
 
 // A label's name; no label line has the last one.
@@ -50,7 +49,7 @@ pub fn tag_lines(
     for (at, tag) in tags.iter().enumerate() {
         let parts = match flawed {
             Some(flawed) if flawed.at == at => flawed_line(*tag, flawed.flaw),
-            _ => [mark(*tag), "\t", name_in(*tag), "\n"],
+            _ => [mark(*tag), "\t", name(tag.label()), "\n"],
         };
         for part in parts {
             lines.push_str(part)?;
@@ -67,17 +66,10 @@ fn mark(tag: Tag) -> &'static str {
     }
 }
 
-// The name in a tag line.
-fn name_in(tag: Tag) -> &'static str {
-    match tag {
-        Tag::Open(label) | Tag::Close(label) => name(label),
-    }
-}
-
 // The mark, the tab, the name and the newline of a faulty line, as far as it has them.
 fn flawed_line(tag: Tag, flaw: Flaw) -> [&'static str; 4] {
     let mark = mark(tag);
-    let name = name_in(tag);
+    let name = name(tag.label());
     match flaw {
         Flaw::Empty => ["", "", "", "\n"],
         Flaw::NoTab => [mark, "", name, "\n"],
