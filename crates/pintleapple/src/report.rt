@@ -6,6 +6,7 @@ use base::table::Table;
 use choosing::kind::SelectorKind;
 use grading::clash::Clash;
 use grading::grade::Graded;
+use std::alloc::AllocError;
 use std::str::from_utf8;
 use std::{fmt, io};
 use text::labels::Labels;
@@ -56,7 +57,7 @@ pub fn picks<T: TagSource>(
     labels: &Labels,
     source: &mut T,
     picks: &[u32],
-) -> io::Result<()> {
+) -> anyhow::Result<()> {
     println!(rt; "selector\t{selector}")?;
     let mut picks = picks.iter().copied().peekable();
     let mut path = Vec::new(rt.alloc());
@@ -66,7 +67,8 @@ pub fn picks<T: TagSource>(
     {
         match tag {
             Tag::Open(label) => {
-                path.push(label)?;
+                // not by an `io::Error`, whose message is another one
+                path.push(label).map_err(|_| AllocError)?;
                 if picks.next_if_eq(&element).is_some() {
                     let path = path.as_slice();
                     println!(rt; "pick\t{element}\t{}", Names { labels, path })?;

@@ -63,3 +63,9 @@ impl From<AllocError> for Stop<'_> {
         Stop::System(error.into())
     }
 }
+
+impl From<anyhow::Error> for Stop<'_> {
+    fn from(error: anyhow::Error) -> Self {
+        Stop::System(error)
+    }
+}
