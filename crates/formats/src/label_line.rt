@@ -1,5 +1,5 @@
 //! The label line: the word `labels` and then the names, numbered from 0.
-ghost use Rattle.std.specs.Prelude.{◌≡◌, ◌==◌, ◌≤◌, true, length, if◌then◌else◌, Ok, Err, MatchResult};
+ghost use Rattle.std.specs.Prelude.{◌≡◌, ◌==◌, ◌<◌, ◌≤◌, true, length, if◌then◌else◌, Ok, Err, Decides, MatchResult};
 ghost use Rattle.text.specs.declared.refusal.Refusal.TheVariants.{BadName, NameTwice};
 ghost use Rattle.text.specs.Labelled.{names_of, read_names};
 ghost use Rattle.text.specs.NameLists.{all_names, twice};
@@ -51,7 +51,7 @@ pub(crate) fn read_line(line: &[u8]) -> Result<Labels, Refusal>
     if !all_names(names) {
         return Err(Refusal::BadName);
     }
-    if count_fields(names) > MAX_LABELS {
+    if has_more_fields(names, MAX_LABELS) {
         return Err(Refusal::NameCount);
     }
     push_names(names)
@@ -64,10 +64,11 @@ fn all_names(fields: &[u8]) -> bool
     fields.split(is_tab).all(is_name)
 }
 
-fn count_fields(fields: &[u8]) -> usize
-    ensures { result ≡ length (listed (split 9 fields.now)) }
+// Whether there are more fields than so many; no field past the first of those is looked at.
+fn has_more_fields(fields: &[u8], count: usize) -> bool
+    ensures { Decides result (count < length (listed (split 9 fields.now))) }
 {
-    fields.split(is_tab).count()
+    fields.split(is_tab).nth(count).is_some()
 }
 
 // The labels with these names, unless a name stands twice.
