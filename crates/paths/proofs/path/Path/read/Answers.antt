@@ -1,5 +1,5 @@
 -- Step by step, and then all steps, or the first refusal that fits.
-use Rattle.std.proofs.Common.{◌≡◌, ℕ, ◌<◌, ◌≤◌, true, false, eqb, List, [], length, sym, ◌∙◌, ⊎_elim, arith}
+use Rattle.std.proofs.Common.{◌≡◌, ℕ, ◌<◌, ◌≤◌, true, false, eqb, rules, List, [], length, sym, ◌∙◌, ⊎_elim, arith}
 use Rattle.std.proofs.lemmas.List.{nil_from_length}
 use Rattle.std.proofs.lemmas.Bool.{eqb-true, eqb-false}
 use Rattle.std.proofs.lemmas.Option.{MatchOption-at_some, MatchOption-at_none}
@@ -25,7 +25,7 @@ loop-stored-preserved c =
     let names = names_of labels in
     let rest = c.loop-stored.rest.now in
     let first = MatchOption-at_some (Unread names rest) (λ p. First names rest p.0 p.1.now) _ c.in_ok-step.ensures.ok_part c.first_step.ensures in
-    one_read names _ _ _ _ _ _ _ _ c.loop-stored.invariant first c.push-stored.ensures
+    search (rules, one_read)
 
 pub returns-then-is_empty : goal.returns-then-is_empty
 returns-then-is_empty c = bad_length (λ h. ⊎_elim
