@@ -1,12 +1,12 @@
 -- Going back from wanted pairs finds just those that come to one.
-use Rattle.std.proofs.Common.{◌≡◌, ℕ, ◌<◌, ◌⊎◌, [], ◌∷◌, ◌++◌, length, sym, refl, ap, subst, inl, inr, ⊎_elim, arith}
-use Rattle.text.specs.Lists.{items}
+use Rattle.std.proofs.Common.{◌≡◌, ℕ, ◌<◌, ◌⊎◌, sym, refl, ap, subst, inl, inr, ⊎_elim, arith}
+use Rattle.base.specs.Stacks.{used, Taken}
 use Rattle.grading.specs.Pairing.{Has, blank, NoPairs}
 use Rattle.grading.specs.Spreading.{Comes, there, move, Spreads}
 use Rattle.grading.specs.Worklists.{Among, Found, Is, Waits, load, Visits}
 use Rattle.grading.specs.declared.products.Pair.{Pair}
 use Rattle.grading.specs.declared.worklist.Worklist.{Worklist}
-use Rattle.grading.proofs.Stored.{longer, waits_kept, waits_last, waits_either}
+use Rattle.grading.proofs.Stored.{pop_only, popped, pop_kept}
 
 -- each pair that is found comes to a wanted one, and waits unless its predecessors are found
 pub record Halfway (n : ℕ) (goes : ℕ → ℕ → ℕ → ℕ → ℕ → Type 0) (wanted : ℕ → ℕ → Type 0) (s : Worklist) : Type 0 where
@@ -16,10 +16,10 @@ pub record Halfway (n : ℕ) (goes : ℕ → ℕ → ℕ → ℕ → ℕ → Typ
   pub seeded : (p q : ℕ) → wanted p q → Found s p q
 
 module _ (n : ℕ) (goes : ℕ → ℕ → ℕ → ℕ → ℕ → Type 0) (wanted : ℕ → ℕ → Type 0) where
-  pub halfway_begun : (s t : Worklist) → NoPairs s.found → items s.waiting ≡ [] → Visits wanted s t → Halfway n goes wanted t
+  pub halfway_begun : (s t : Worklist) → NoPairs s.found → used s.waiting ≡ 0 → Visits wanted s t → Halfway n goes wanted t
   halfway_begun s t none empty v = record {
     sound = λ p q e. there (fresh p q (v.only p q e)).0;
-    listed = λ p q w. ⊎_elim (λ i. absurd (omega (arith, i.below, ap length empty))) (λ h. there h) (v.listed p q w);
+    listed = λ p q w. ⊎_elim (λ i. absurd (omega (arith, i.below, empty))) (λ h. there h) (v.listed p q w);
     handled = λ p q e. inl (fresh p q (v.only p q e)).1;
     seeded = v.all;
   }
@@ -29,12 +29,12 @@ module _ (n : ℕ) (goes : ℕ → ℕ → ℕ → ℕ → ℕ → Type 0) (want
       fresh p q (inr h) = h
 
   -- x is popped
-  module _ (s t : Worklist) (x : Pair) (h : Halfway n goes wanted s) (same : t.found ≡ s.found) (taken : items s.waiting ≡ items t.waiting ++ x ∷ []) where
+  module _ (s t : Worklist) (x : Pair) (h : Halfway n goes wanted s) (same : t.found ≡ s.found) (taken : Taken s.waiting x t.waiting) where
     top : Comes n goes wanted x.first x.second
-    top = h.listed x.first x.second (waits_last t s x taken x.first x.second (refl, refl))
+    top = h.listed x.first x.second (popped s t x taken x.first x.second (refl, refl))
 
   -- and its predecessors are visited
-  module _ (s t u : Worklist) (x : Pair) (h : Halfway n goes wanted s) (same : t.found ≡ s.found) (taken : items s.waiting ≡ items t.waiting ++ x ∷ [])
+  module _ (s t u : Worklist) (x : Pair) (h : Halfway n goes wanted s) (same : t.found ≡ s.found) (taken : Taken s.waiting x t.waiting)
       (v : Visits (Among n (λ a p q. goes a p q x.first x.second)) t u) where
     found_back : (p q : ℕ) → Found t p q → Found s p q
     found_back p q = subst (λ f. Has f p q) same
@@ -53,26 +53,26 @@ module _ (n : ℕ) (goes : ℕ → ℕ → ℕ → ℕ → ℕ → Type 0) (want
     left p q (inr (e, f)) = inr (λ a r w l k. v.all r w (record { number = a; below = l; holds = subst (λ p. goes a r w p x.second) (sym e) (subst (goes a r w p) (sym f) k) }))
 
     before : (p q : ℕ) → Waits s p q ⊎ ((a r w : ℕ) → a < n → goes a r w p q → Found s r w) → Handled p q
-    before p q (inl w) = left p q (waits_either t s x taken p q w)
+    before p q (inl w) = left p q (pop_kept s t x taken p q w)
     before p q (inr k) = inr (λ a r w l g. v.kept r w (found_there r w (k a r w l g)))
 
     pub load_falls : load u < load s
-    load_falls = omega (arith, v.load, ap blank same, longer t s x taken)
+    load_falls = omega (arith, v.load, ap blank same, taken.used, taken.some)
 
     pub halfway_more : Halfway n goes wanted u
     halfway_more = record {
       sound = λ p q e. ⊎_elim (λ f. h.sound p q (found_back p q f)) (λ (i, _). comes p q i) (v.only p q e);
-      listed = λ p q w. ⊎_elim (λ f. h.listed p q (waits_kept t s x taken p q f)) (comes p q) (v.listed p q w);
+      listed = λ p q w. ⊎_elim (λ f. h.listed p q (pop_only s t x taken p q f)) (comes p q) (v.listed p q w);
       handled = λ p q e. ⊎_elim (λ f. before p q (h.handled p q (found_back p q f))) (λ (_, w). inl w) (v.only p q e);
       seeded = λ p q w. v.kept p q (found_there p q (h.seeded p q w));
     }
 
   -- nothing waits any more
-  pub halfway_ended : (s : Worklist) → Halfway n goes wanted s → items s.waiting ≡ [] → Spreads n goes wanted s.found
+  pub halfway_ended : (s : Worklist) → Halfway n goes wanted s → used s.waiting ≡ 0 → Spreads n goes wanted s.found
   halfway_ended s h empty p q = (h.sound p q, full p q)
     where
       closed : (a p q x y : ℕ) → a < n → goes a p q x y → Waits s x y ⊎ ((a r u : ℕ) → a < n → goes a r u x y → Found s r u) → Found s p q
-      closed a p q x y l g (inl w) = absurd (omega (arith, w.below, ap length empty))
+      closed a p q x y l g (inl w) = absurd (omega (arith, w.below, empty))
       closed a p q x y l g (inr k) = k a p q l g
 
       full : (p q : ℕ) → Comes n goes wanted p q → Found s p q

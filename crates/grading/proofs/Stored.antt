@@ -1,9 +1,8 @@
--- What waits where one pair more does: after a push, and before a pop.
-use Rattle.std.proofs.Common.{◌≡◌, ℕ, ◌+◌, ◌<◌, ◌⊎◌, [], ◌∷◌, ◌++◌, length, get_or, sym, ap, ◌∙◌, subst, inl, inr, arith, length-append}
-use Rattle.std.proofs.Math.ListN.{get_or-append}
-use Rattle.std.proofs.Math.Seq.{get_or-append_seam}
-use native.Mathlib.Decide.{dec_lt}
-use Rattle.text.specs.Lists.{items}
+-- What waits after a push and after a pop.
+use Rattle.std.proofs.Common.{◌≡◌, ℕ, ◌-◌, ◌≢◌, ◌⊎◌, get_or, sym, ap, ◌∙◌, subst, inl, inr, arith, get_or-set_other, get_or-set_same}
+use native.Mathlib.Decide.{ℕ_discrete}
+use Rattle.std.proofs.lemmas.List.{get_or_default}
+use Rattle.base.specs.Stacks.{used, Stored, Taken}
 use Rattle.grading.specs.Worklists.{Is, Waits}
 use Rattle.grading.specs.declared.products.Pair.{Pair}
 use Rattle.grading.specs.declared.worklist.Worklist.{Worklist}
@@ -11,30 +10,47 @@ use Rattle.grading.specs.declared.worklist.Worklist.{Worklist}
 same : (x y : Pair) (p q : ℕ) → x ≡ y → Is x p q → Is y p q
 same x y p q e = subst (λ z. Is z p q) e
 
-module _ (s t : Worklist) (x : Pair) (h : items t.waiting ≡ items s.waiting ++ x ∷ []) where
-  pub longer : length (items t.waiting) ≡ length (items s.waiting) + 1
-  longer = ap length h ∙ length-append (items s.waiting) (x ∷ [])
+module _ (s t : Worklist) (x : Pair) (h : Stored s.waiting x t.waiting) where
+  -- another place, and that of the push
+  other : (k : ℕ) (d : Pair) → k ≢ used s.waiting → get_or t.waiting.places.now k d ≡ get_or s.waiting.places.now k d
+  other k d ne = ap (λ l. get_or l k d) h.places ∙ get_or-set_other s.waiting.places.now (used s.waiting) k x d ne
 
-  -- an earlier place, and the last
-  earlier : (k : ℕ) (d : Pair) → k < length (items s.waiting) → get_or (items t.waiting) k d ≡ get_or (items s.waiting) k d
-  earlier k d l = ap (λ l. get_or l k d) h ∙ get_or-append (items s.waiting) (x ∷ []) d k l
+  top : (d : Pair) → get_or t.waiting.places.now (used s.waiting) d ≡ x
+  top d = ap (λ l. get_or l (used s.waiting) d) h.places ∙ get_or-set_same s.waiting.places.now (used s.waiting) x d h.room
 
-  last : (d : Pair) → get_or (items t.waiting) (length (items s.waiting)) d ≡ x
-  last d = ap (λ l. get_or l (length (items s.waiting)) d) h ∙ get_or-append_seam (items s.waiting) x [] d
-
-  pub waits_kept : (p q : ℕ) → Waits s p q → Waits t p q
-  waits_kept p q w = record {
+  pub push_kept : (p q : ℕ) → Waits s p q → Waits t p q
+  push_kept p q w = record {
     place = w.place;
-    below = omega (arith, w.below, longer);
-    is = λ d. same _ _ p q (sym (earlier w.place d w.below)) (w.is d);
+    below = omega (arith, w.below, h.used);
+    is = λ d. same _ _ p q (sym (other w.place d (omega (arith, w.below)))) (w.is d);
   }
 
-  pub waits_last : (p q : ℕ) → Is x p q → Waits t p q
-  waits_last p q e = record { place = length (items s.waiting); below = omega (arith, longer); is = λ d. same _ _ p q (sym (last d)) e }
+  pub push_new : (p q : ℕ) → Is x p q → Waits t p q
+  push_new p q e = record { place = used s.waiting; below = omega (arith, h.used); is = λ d. same _ _ p q (sym (top d)) e }
 
-  pub waits_either : (p q : ℕ) → Waits t p q → Waits s p q ⊎ Is x p q
-  waits_either p q w = cases (dec_lt w.place (length (items s.waiting)))
+  pub push_only : (p q : ℕ) → Waits t p q → Waits s p q ⊎ Is x p q
+  push_only p q w = cases (ℕ_discrete w.place (used s.waiting))
     where
-      cases : Dec (w.place < length (items s.waiting)) → Waits s p q ⊎ Is x p q
-      cases (yes l) = inl (record { place = w.place; below = l; is = λ d. same _ _ p q (earlier w.place d l) (w.is d) })
-      cases (no l) = let e : w.place ≡ length (items s.waiting) = omega (arith, w.below, longer) in inr (same _ _ p q (ap (λ k. get_or (items t.waiting) k x) e ∙ last x) (w.is x))
+      cases : Dec (w.place ≡ used s.waiting) → Waits s p q ⊎ Is x p q
+      cases (yes e) = inr (same _ _ p q (ap (λ k. get_or t.waiting.places.now k x) e ∙ top x) (w.is x))
+      cases (no e) = inl (record { place = w.place; below = omega (arith, w.below, h.used); is = λ d. same _ _ p q (other w.place d e) (w.is d) })
+
+module _ (s t : Worklist) (x : Pair) (h : Taken s.waiting x t.waiting) where
+  -- what a pop leaves
+  pub pop_only : (p q : ℕ) → Waits t p q → Waits s p q
+  pop_only p q w = record { place = w.place; below = omega (arith, w.below, h.used); is = λ d. same _ _ p q (ap (λ l. get_or l w.place d) h.places) (w.is d) }
+
+  -- what it takes
+  pub popped : (p q : ℕ) → Is x p q → Waits s p q
+  popped p q e = record {
+    place = used s.waiting - 1;
+    below = omega (arith, h.some);
+    is = λ d. same _ _ p q (h.entry ∙ get_or_default s.waiting.places.now (used s.waiting - 1) x d (omega (arith, h.some, s.waiting.within))) e;
+  }
+
+  pub pop_kept : (p q : ℕ) → Waits s p q → Waits t p q ⊎ Is x p q
+  pop_kept p q w = cases (ℕ_discrete w.place (used s.waiting - 1))
+    where
+      cases : Dec (w.place ≡ used s.waiting - 1) → Waits t p q ⊎ Is x p q
+      cases (yes f) = inr (same _ _ p q (ap (λ k. get_or s.waiting.places.now k x) f ∙ sym h.entry) (w.is x))
+      cases (no f) = inl (record { place = w.place; below = omega (arith, w.below, h.used); is = λ d. same _ _ p q (sym (ap (λ l. get_or l w.place d) h.places)) (w.is d) })

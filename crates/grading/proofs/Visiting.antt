@@ -1,31 +1,31 @@
 -- Visits of one pair, of none, and of some after others.
-use Rattle.std.proofs.Common.{◌≡◌, ℕ, ◌+◌, ◌<◌, Ok, Err, Result, ◌⊎◌, ◌↔◌, [], ◌∷◌, ◌++◌, sym, refl, ◌∙◌, subst, inl, inr, ⊎_elim, arith}
+use Rattle.std.proofs.Common.{◌≡◌, ℕ, ◌+◌, ◌<◌, Ok, Err, Result, ◌⊎◌, ◌↔◌, sym, refl, ◌∙◌, subst, inl, inr, ⊎_elim, arith}
 use native.Mathlib.Decide.{ℕ_discrete}
-use Rattle.text.specs.Lists.{items, Pushes}
+use Rattle.base.specs.Stacks.{Stored, Pushes}
 use Rattle.grading.specs.Pairing.{Adds}
 use Rattle.grading.specs.StateSets.{In, Taken}
 use Rattle.grading.specs.Worklists.{Found, Visits, Among, Below}
 use Rattle.grading.specs.declared.products.Pair.{Pair}
 use Rattle.grading.specs.declared.states.StateSet.{StateSet}
 use Rattle.grading.specs.declared.worklist.Worklist.{Worklist}
-use Rattle.grading.proofs.Stored.{longer, waits_kept, waits_last, waits_either}
+use Rattle.grading.proofs.Stored.{push_kept, push_new, push_only}
 
 abbrev One : ℕ → ℕ → ℕ → ℕ → Type 0
 One p q r u = (r ≡ p) × (u ≡ q)
 
 -- a pair that was not yet found is added and pushed
 module _ (s t : Worklist) (x : Pair) (adds : Adds s.found x.first x.second t.found) (new : ¬ Found s x.first x.second) where
-  stored : items t.waiting ≡ items s.waiting ++ x ∷ [] → Visits (One x.first x.second) s t
+  stored : Stored s.waiting x t.waiting → Visits (One x.first x.second) s t
   stored h = record {
     kept = λ r u e. (adds.each r u).1 (inl e);
     all = λ r u e. (adds.each r u).1 (inr e);
-    only = λ r u e. ⊎_elim inl (λ (a, b). inr ((a, b), waits_last s t x h r u (sym a, sym b))) ((adds.each r u).0 e);
-    waits = waits_kept s t x h;
-    listed = λ r u w. ⊎_elim inl (λ (a, b). inr (sym a, sym b)) (waits_either s t x h r u w);
-    load = omega (arith, adds.fewer new, longer s t x h);
+    only = λ r u e. ⊎_elim inl (λ (a, b). inr ((a, b), push_new s t x h r u (sym a, sym b))) ((adds.each r u).0 e);
+    waits = push_kept s t x h;
+    listed = λ r u w. ⊎_elim inl (λ (a, b). inr (sym a, sym b)) (push_only s t x h r u w);
+    load = omega (arith, adds.fewer new, h.used);
   }
 
-  pub visits_new : (r : Result (Unit {0}) Pair) → Pushes 1024 s.waiting x t.waiting r → Visits (One x.first x.second) s t
+  pub visits_new : (r : Result (Unit {0}) Pair) → Pushes s.waiting x t.waiting r → Visits (One x.first x.second) s t
   visits_new (Ok _) h = stored h
   visits_new (Err _) (full, _, _) = absurd (omega (arith, adds.fewer new, s.room, full))
 

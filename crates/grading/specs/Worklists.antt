@@ -1,6 +1,6 @@
 -- What a worklist of pairs has found, what waits in it, and what it makes of visits.
-use Rattle.std.specs.Prelude.{◌≡◌, ℕ, ◌+◌, ◌<◌, ◌⊎◌, length, slice_index_or}
-use Rattle.text.specs.Lists.{items}
+use Rattle.std.specs.Prelude.{◌≡◌, ℕ, ◌+◌, ◌<◌, ◌⊎◌, slice_index_or}
+use Rattle.base.specs.Stacks.{used}
 use Rattle.grading.specs.Pairing.{Has, blank}
 use Rattle.grading.specs.declared.products.Pair.{Pair}
 use Rattle.grading.specs.declared.worklist.Worklist.{Worklist}
@@ -23,15 +23,15 @@ Found s = Has s.found
 abbrev pub Is : Pair → ℕ → ℕ → Type 0
 Is x p q = (x.first ≡ p) × (x.second ≡ q)
 
--- the pair p, q stands at a place of the list
+-- the pair p, q stands at a place of the store
 pub record Waits (s : Worklist) (p q : ℕ) : Type 0 where
   pub place : ℕ
-  pub below : place < length (items s.waiting)
-  pub is : (d : Pair) → Is (slice_index_or (items s.waiting) place d) p q
+  pub below : place < used s.waiting
+  pub is : (d : Pair) → Is (slice_index_or s.waiting.places.now place d) p q
 
--- how many pairs have yet to be found or to be taken from the list
+-- how many pairs have yet to be found or to be taken from the store
 abbrev pub load : Worklist → ℕ
-load s = blank s.found + length (items s.waiting)
+load s = blank s.found + used s.waiting
 
 -- from s to t all pairs that are wanted are found, and no other; those that are new wait
 pub record Visits (wanted : ℕ → ℕ → Type 0) (s t : Worklist) : Type 0 where

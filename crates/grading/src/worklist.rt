@@ -1,22 +1,22 @@
 //! A worklist of pairs of states.
 ghost use Rattle.std.specs.Prelude.{◌+◌, ◌≤◌, length};
-ghost use Rattle.text.specs.Lists.{items};
+ghost use Rattle.base.specs.Stacks.{used};
 ghost use Rattle.grading.specs.Pairing.{blank};
 
 use crate::pairs::Pairs;
 use crate::products::{Moves, Pair, Product, Seeds};
 use crate::states::StateSet;
-use text::list::ArrayList;
+use base::stack::Stack;
 
 /// The pairs found so far, and those among them that wait for their predecessors to be visited.
 #[derive(Drop)]
-pub struct Worklist {
+pub struct Worklist<'a> {
     pub found: Pairs,
-    pub waiting: ArrayList<Pair, 1024>,
-    ghost room: { blank found + length (items waiting) ≤ 1024 },
+    pub waiting: Stack<'a, Pair>,
+    ghost room: { blank found + used waiting ≤ length waiting.places.now },
 }
 
-impl Worklist {
+impl Worklist<'_> {
     ghost use Rattle.std.specs.Prelude.{◌≡◌, ℕ, ◌<◌};
     ghost use Rattle.grading.specs.StateSets.{In};
     ghost use Rattle.grading.specs.Worklists.{Visits, Among, Below};

@@ -1,5 +1,5 @@
 -- Once nothing waits, just the pairs that come to a wanted one are found.
-use Rattle.std.proofs.Common.{sym, refl, subst}
+use Rattle.std.proofs.Common.{sym, refl, subst, arith}
 use Rattle.base.specs.Tables.{automaton}
 use Rattle.grading.specs.Worklists.{Below}
 use Rattle.grading.proofs.Halfway.{Halfway, halfway_begun, halfway_more, halfway_ended}
@@ -11,7 +11,7 @@ loop-pair-init g c =
     let goes = g.M.Moves.goes c.args.moves.now in
     let wanted = g.S.Seeds.wanted c.args.seeds.now in
     let t = c.visit_seeds.new.self in
-    subst (λ n. Halfway A.labels goes (Below n wanted) t) c.states.ensures (halfway_begun A.labels goes (Below c.states.result wanted) _ t c.none.ensures c.empty.ensures c.visit_seeds.ensures)
+    subst (λ n. Halfway A.labels goes (Below n wanted) t) c.states.ensures (halfway_begun A.labels goes (Below c.states.result wanted) _ t c.none.ensures (omega (arith, c.new.ensures.len)) c.visit_seeds.ensures)
 
 pub loop-pair-preserved : goal.loop-pair-preserved
 loop-pair-preserved g c =
