@@ -5,6 +5,7 @@ use base::selector::Selector;
 use base::source::Fault;
 use text::refusal::Refusal;
 
+// Grades, causes and answers are not the library's, with which the evaluator shares no code.
 /// The grade of a table.
 #[derive(Clone, Copy, PartialEq, Eq, Debug)]
 pub enum Grade {

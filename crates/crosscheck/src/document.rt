@@ -4,6 +4,7 @@ use crate::rules::Rule;
 use crate::writing::{packed, tag_lines};
 use std::alloc::{AllocError, Global};
 
+// Not the library's, with which the evaluator shares no code.
 /// An element opens or closes, by its label.
 #[derive(Clone, Copy)]
 pub enum Tag {

@@ -1,6 +1,7 @@
 //! Paths by their meaning: which lists of labels a list of steps means.
 use std::alloc::{AllocError, Global};
 
+// Steps and tests are not the library's, with which the evaluator shares no code.
 /// Which labels a step fits: one, or every label.
 #[derive(Clone, Copy)]
 pub enum Test {

@@ -14,6 +14,7 @@ pub struct Tally {
     pub differences: u32,
 }
 
+// Not the library's, with which the evaluator shares no code.
 /// Which selector is run.
 #[derive(Clone, Copy, PartialEq, Eq)]
 pub enum Chosen {

@@ -1,7 +1,7 @@
 -- Visits of one pair, of none, and of some after others.
-use Rattle.std.proofs.Common.{◌≡◌, ℕ, ◌+◌, ◌<◌, Ok, Err, Result, ◌⊎◌, ◌↔◌, sym, refl, ◌∙◌, subst, inl, inr, ⊎_elim, arith}
+use Rattle.std.proofs.Common.{◌≡◌, ℕ, ◌+◌, ◌<◌, Ok, Err, Result, ◌⊎◌, ◌↔◌, length, sym, refl, ap, ◌∙◌, subst, inl, inr, ⊎_elim, arith, length-set}
 use native.Mathlib.Decide.{ℕ_discrete}
-use Rattle.base.specs.Stacks.{Stored, Pushes}
+use Rattle.base.specs.Stacks.{used, Stored, Pushes}
 use Rattle.grading.specs.Pairing.{Adds}
 use Rattle.grading.specs.StateSets.{In, Taken}
 use Rattle.grading.specs.Worklists.{Found, Visits, Among, Below}
@@ -23,6 +23,7 @@ module _ (s t : Worklist) (x : Pair) (adds : Adds s.found x.first x.second t.fou
     waits = push_kept s t x h;
     listed = λ r u w. ⊎_elim inl (λ (a, b). inr (sym a, sym b)) (push_only s t x h r u w);
     load = omega (arith, adds.fewer new, h.used);
+    size = ap length h.places ∙ length-set s.waiting.places.now (used s.waiting) x;
   }
 
   pub visits_new : (r : Result (Unit {0}) Pair) → Pushes s.waiting x t.waiting r → Visits (One x.first x.second) s t
@@ -39,6 +40,7 @@ module _ (P : ℕ → ℕ → Type 0) where
     waits = λ p q w. w;
     listed = λ p q w. inl w;
     load = refl;
+    size = refl;
   }
 
   pub visits_none : (s : Worklist) → ((p q : ℕ) → ¬ P p q) → Visits P s s
@@ -53,6 +55,7 @@ module _ (P : ℕ → ℕ → Type 0) where
     waits = λ p q e. h.waits p q (g.waits p q e);
     listed = λ p q e. ⊎_elim (λ f. ⊎_elim inl (λ w. inr (from-p p q w)) (g.listed p q f)) (λ w. inr (from-q p q w)) (h.listed p q e);
     load = h.load ∙ g.load;
+    size = h.size ∙ g.size;
   }
 
 -- x is taken out of a set: the pairs with x are visited first, and then those with the others

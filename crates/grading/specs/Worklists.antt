@@ -1,5 +1,5 @@
 -- What a worklist of pairs has found, what waits in it, and what it makes of visits.
-use Rattle.std.specs.Prelude.{◌≡◌, ℕ, ◌+◌, ◌<◌, ◌⊎◌, slice_index_or}
+use Rattle.std.specs.Prelude.{◌≡◌, ℕ, ◌+◌, ◌<◌, ◌⊎◌, length, slice_index_or}
 use Rattle.base.specs.Stacks.{used}
 use Rattle.grading.specs.Pairing.{Has, blank}
 use Rattle.grading.specs.declared.products.Pair.{Pair}
@@ -41,3 +41,4 @@ pub record Visits (wanted : ℕ → ℕ → Type 0) (s t : Worklist) : Type 0 wh
   pub waits : (p q : ℕ) → Waits s p q → Waits t p q
   pub listed : (p q : ℕ) → Waits t p q → Waits s p q ⊎ wanted p q
   pub load : load t ≡ load s
+  pub size : length t.waiting.places.now ≡ length s.waiting.places.now

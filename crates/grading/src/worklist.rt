@@ -8,6 +8,7 @@ use crate::products::{Moves, Pair, Product, Seeds};
 use crate::states::StateSet;
 use base::stack::Stack;
 
+// No `ArrayList`: the one store over lent memory serves every kind of entry.
 /// The pairs found so far, and those among them that wait for their predecessors to be visited.
 #[derive(Drop)]
 pub struct Worklist<'a> {
